@@ -64,7 +64,7 @@ CallIsFor ctx given node (Submit text) = ⊤
 CallIsFor ctx given node Tick = ⊤
 CallIsFor ctx given node Stop = ⊤
 CallIsFor ctx given node Start = ⊤
-CallIsFor ctx given node (Reprice product price) = ⊤
+CallIsFor ctx given node (Reprice change) = ⊤
 CallIsFor ctx given node (Adjudicate from bytes advice) = IsForAll ctx given from node bytes
 
 -- pharmacies send to switches of their lists
@@ -113,13 +113,13 @@ pharmacy_sends ctx given n (AtRest j) next Start out h p e =
     let d = done_same (Up (started j)) next [] out e in
     sends_at ctx given n (Up (started j)) next [] out d.0 d.1 (record { phases = started_phases j h.some; sends = tt })
 pharmacy_sends ctx given n (Up j) next Start out h p e = absurd cc
-pharmacy_sends ctx given n (Up j) next (Reprice product price) out h p e = absurd cc
+pharmacy_sends ctx given n (Up j) next (Reprice change) out h p e = absurd cc
 pharmacy_sends ctx given n (Up j) next (Adjudicate from bytes advice) out h p e = absurd cc
 pharmacy_sends ctx given n (AtRest j) next (Submit text) out h p e = absurd cc
 pharmacy_sends ctx given n (AtRest j) next Tick out h p e = absurd cc
 pharmacy_sends ctx given n (AtRest j) next (Take from bytes) out h p e = absurd cc
 pharmacy_sends ctx given n (AtRest j) next Stop out h p e = absurd cc
-pharmacy_sends ctx given n (AtRest j) next (Reprice product price) out h p e = absurd cc
+pharmacy_sends ctx given n (AtRest j) next (Reprice change) out h p e = absurd cc
 pharmacy_sends ctx given n (AtRest j) next (Adjudicate from bytes advice) out h p e = absurd cc
 
 -- switches send to the routed payer, or to the pharmacy of the id
@@ -228,13 +228,13 @@ switch_sends ctx given w m (AtRest cap) next Start out laws x there all c e = su
 switch_sends ctx given w m (Up t) next (Submit text) out laws x there all c e = absurd cc
 switch_sends ctx given w m (Up t) next Tick out laws x there all c e = absurd cc
 switch_sends ctx given w m (Up t) next Start out laws x there all c e = absurd cc
-switch_sends ctx given w m (Up t) next (Reprice product price) out laws x there all c e = absurd cc
+switch_sends ctx given w m (Up t) next (Reprice change) out laws x there all c e = absurd cc
 switch_sends ctx given w m (Up t) next (Adjudicate from bytes advice) out laws x there all c e = absurd cc
 switch_sends ctx given w m (AtRest cap) next (Submit text) out laws x there all c e = absurd cc
 switch_sends ctx given w m (AtRest cap) next Tick out laws x there all c e = absurd cc
 switch_sends ctx given w m (AtRest cap) next (Take from bytes) out laws x there all c e = absurd cc
 switch_sends ctx given w m (AtRest cap) next Stop out laws x there all c e = absurd cc
-switch_sends ctx given w m (AtRest cap) next (Reprice product price) out laws x there all c e = absurd cc
+switch_sends ctx given w m (AtRest cap) next (Reprice change) out laws x there all c e = absurd cc
 switch_sends ctx given w m (AtRest cap) next (Adjudicate from bytes advice) out laws x there all c e = absurd cc
 
 -- payers answer the switch that asked
@@ -263,7 +263,7 @@ payer_sends ctx given w n (Up b) next (Take from bytes) out laws c for_it e = ad
 payer_sends ctx given w n (Up b) next (Adjudicate from bytes advice) out laws c for_it e =
     adjudicated_out ctx given w n b (advice_in ctx advice) from bytes next out laws c for_it (asked_first b.settings.asks _ next out e).1
 payer_sends ctx given w n (Up b) next Stop out laws c for_it e = subst (AllByRecursion (SentWell ctx given (Payer n))) (done_same (AtRest b) next [] out e).1 tt
-payer_sends ctx given w n (Up b) next (Reprice product price) out laws c for_it e = repriced_out ctx given n b (ctx.reprice b.plan product price) next out e
+payer_sends ctx given w n (Up b) next (Reprice change) out laws c for_it e = repriced_out ctx given n b (ctx.reprice b.plan change) next out e
 payer_sends ctx given w n (AtRest b) next Start out laws c for_it e = subst (AllByRecursion (SentWell ctx given (Payer n))) (done_same (Up b) next [] out e).1 tt
 payer_sends ctx given w n (Up b) next (Submit text) out laws c for_it e = absurd cc
 payer_sends ctx given w n (Up b) next Tick out laws c for_it e = absurd cc
@@ -272,5 +272,5 @@ payer_sends ctx given w n (AtRest b) next (Submit text) out laws c for_it e = ab
 payer_sends ctx given w n (AtRest b) next Tick out laws c for_it e = absurd cc
 payer_sends ctx given w n (AtRest b) next (Take from bytes) out laws c for_it e = absurd cc
 payer_sends ctx given w n (AtRest b) next Stop out laws c for_it e = absurd cc
-payer_sends ctx given w n (AtRest b) next (Reprice product price) out laws c for_it e = absurd cc
+payer_sends ctx given w n (AtRest b) next (Reprice change) out laws c for_it e = absurd cc
 payer_sends ctx given w n (AtRest b) next (Adjudicate from bytes advice) out laws c for_it e = absurd cc

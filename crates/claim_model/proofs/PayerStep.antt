@@ -243,7 +243,7 @@ payer_sound ctx given w n (Up b) next (Adjudicate from bytes advice) sent laws a
 payer_sound ctx given w n (Up b) next Stop sent laws accepts x is c e =
     let d = done_same (AtRest b) next [] sent e in
     moved_payer ctx given w n (AtRest b) next [] sent d.0 d.1 (quiet_payer ctx given w n (Up b) (AtRest b) x is refl refl refl)
-payer_sound ctx given w n (Up b) next (Reprice product price) sent laws accepts x is c e = repriced ctx given w n b next sent (ctx.reprice b.plan product price) x is e
+payer_sound ctx given w n (Up b) next (Reprice change) sent laws accepts x is c e = repriced ctx given w n b next sent (ctx.reprice b.plan change) x is e
 payer_sound ctx given w n (AtRest b) next Start sent laws accepts x is c e =
     let d = done_same (Up b) next [] sent e in
     moved_payer ctx given w n (Up b) next [] sent d.0 d.1 (quiet_payer ctx given w n (AtRest b) (Up b) x is refl refl refl)
@@ -254,5 +254,5 @@ payer_sound ctx given w n (AtRest b) next (Submit text) sent laws accepts x is c
 payer_sound ctx given w n (AtRest b) next Tick sent laws accepts x is c e = absurd cc
 payer_sound ctx given w n (AtRest b) next (Take from bytes) sent laws accepts x is c e = absurd cc
 payer_sound ctx given w n (AtRest b) next Stop sent laws accepts x is c e = absurd cc
-payer_sound ctx given w n (AtRest b) next (Reprice product price) sent laws accepts x is c e = absurd cc
+payer_sound ctx given w n (AtRest b) next (Reprice change) sent laws accepts x is c e = absurd cc
 payer_sound ctx given w n (AtRest b) next (Adjudicate from bytes advice) sent laws accepts x is c e = absurd cc

@@ -28,7 +28,7 @@ SoundCall ctx w (Submit text) = ⊤
 SoundCall ctx w Tick = ⊤
 SoundCall ctx w Stop = ⊤
 SoundCall ctx w Start = ⊤
-SoundCall ctx w (Reprice product price) = ⊤
+SoundCall ctx w (Reprice change) = ⊤
 SoundCall ctx w (Adjudicate from bytes advice) = Carries ctx w bytes
 
 -- bytes that carry an envelope read as this envelope
@@ -247,7 +247,7 @@ pharmacy_sound ctx given w n (Up j) next Stop sent laws accepts x is c e =
     let d = done_same (AtRest (stopped j)) next [] sent e in
     moved ctx given w n (AtRest (stopped j)) next [] sent d.0 d.1 (quiet_step ctx given w n (Up j) (AtRest (stopped j)) x is refl)
 pharmacy_sound ctx given w n (Up j) next Start sent laws accepts x is c e = absurd cc
-pharmacy_sound ctx given w n (Up j) next (Reprice product price) sent laws accepts x is c e = absurd cc
+pharmacy_sound ctx given w n (Up j) next (Reprice change) sent laws accepts x is c e = absurd cc
 pharmacy_sound ctx given w n (Up j) next (Adjudicate from bytes advice) sent laws accepts x is c e = absurd cc
 pharmacy_sound ctx given w n (AtRest j) next Start sent laws accepts x is c e =
     let d = done_same (Up (started j)) next [] sent e in
@@ -256,5 +256,5 @@ pharmacy_sound ctx given w n (AtRest j) next (Submit text) sent laws accepts x i
 pharmacy_sound ctx given w n (AtRest j) next Tick sent laws accepts x is c e = absurd cc
 pharmacy_sound ctx given w n (AtRest j) next (Take from bytes) sent laws accepts x is c e = absurd cc
 pharmacy_sound ctx given w n (AtRest j) next Stop sent laws accepts x is c e = absurd cc
-pharmacy_sound ctx given w n (AtRest j) next (Reprice product price) sent laws accepts x is c e = absurd cc
+pharmacy_sound ctx given w n (AtRest j) next (Reprice change) sent laws accepts x is c e = absurd cc
 pharmacy_sound ctx given w n (AtRest j) next (Adjudicate from bytes advice) sent laws accepts x is c e = absurd cc

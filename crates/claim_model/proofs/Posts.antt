@@ -114,7 +114,7 @@ event_posts ctx given w v (Ticking n) sent laws accepts p e = node_posts ctx giv
 event_posts ctx given w v (Delivery k) sent laws accepts p e = delivery_posts ctx given w v k sent (numbered w.packets k) laws accepts p refl e
 event_posts ctx given w v (Stopping node) sent laws accepts p e = node_posts ctx given w v node Stop sent laws accepts p tt tt e
 event_posts ctx given w v (Starting node) sent laws accepts p e = node_posts ctx given w v node Start sent laws accepts p tt tt e
-event_posts ctx given w v (PlanChange n product price) sent laws accepts p e = node_posts ctx given w v (Payer n) (Reprice product price) sent laws accepts p tt tt e
+event_posts ctx given w v (PlanChange n change) sent laws accepts p e = node_posts ctx given w v (Payer n) (Reprice change) sent laws accepts p tt tt e
 event_posts ctx given w v (Adjudication k advice) sent laws accepts p e = adjudication_posts ctx given w v k advice sent (numbered w.packets k) laws accepts p refl e
 
 outcome_posts : (ctx : Context) (given : WorldSettings) (w : World) (event : Event) (o : Outcome World) → Laws ctx → Accepts ctx given → Posted ctx given w → step ctx w event ≡ o → Posted ctx given (world_after w o)

@@ -151,7 +151,7 @@ event_made ctx w v (Ticking n) sent e = record { call = Tick; step_is = at_node 
 event_made ctx w v (Delivery k) sent e = delivery_made ctx w v k sent (numbered w.packets k) refl e
 event_made ctx w v (Stopping node) sent e = record { call = Stop; step_is = at_node ctx w v node Stop sent e; takes = λ all. tt }
 event_made ctx w v (Starting node) sent e = record { call = Start; step_is = at_node ctx w v node Start sent e; takes = λ all. tt }
-event_made ctx w v (PlanChange n product price) sent e = record { call = Reprice product price; step_is = at_node ctx w v (Payer n) (Reprice product price) sent e; takes = λ all. tt }
+event_made ctx w v (PlanChange n change) sent e = record { call = Reprice change; step_is = at_node ctx w v (Payer n) (Reprice change) sent e; takes = λ all. tt }
 event_made ctx w v (Adjudication k advice) sent e = adjudication_made ctx w v k advice sent (numbered w.packets k) refl e
 
 step_sound : (ctx : Context) (given : WorldSettings) (w v : World) (call : Call) → Laws ctx → Accepts ctx given → Sound ctx given w → SoundCall ctx w call → Step ctx w v call → Kept_sound ctx given w v

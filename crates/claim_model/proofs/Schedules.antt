@@ -2,7 +2,7 @@
 use Rattle.std.proofs.Common.{◌≡◌, ℕ, ◌+◌, Bool, true, false, List, [], ◌∷◌, ◌++◌, map, Option, Some, None, Result, Ok, Err, refl}
 use Rattle.std.specs.Prelude.{option_map}
 use Rattle.claim_profile.specs.Transaction.{transaction_code}
-use Rattle.claim_model.specs.Words.{TxnId, Envelope, Auth, Ruling, Paid, Duplicate, Reversed, Rejected, BadBin, DuplicateClaim, ReversalNotProcessed}
+use Rattle.claim_model.specs.Words.{SetPrice, SetTerms, TxnId, Envelope, Auth, Ruling, Paid, Duplicate, Reversed, Rejected, BadBin, DuplicateClaim, ReversalNotProcessed}
 use Rattle.claim_model.specs.Context.{Context}
 use Rattle.claim_model.specs.Readable.{readable, rulings_in, request_envelope, answer_envelope}
 use Rattle.claim_model.specs.Refusal.{Refusal, Down, AlreadyUp, NoSuchNode, NoSuchPacket, NotWaiting, AlreadySettled, JournalFull, SerialsUsedUp, BookFull, NumberReused, NotOurs, Unreadable, NotMine, NoSuchNumber, Differs, NotAdvised, NotAsked}
@@ -270,7 +270,7 @@ unfolding one step answered readable transaction_code ruling judged submitted ti
 numbers_go_on = refl
 
 -- refusals that the world itself gives
-world_refusals : refusals one (Delivery 99 ∷ Stopping (Switch 2) ∷ Stopping (Switch 2) ∷ Starting (Pharmacy 1) ∷ Ticking 9 ∷ Delivery 0 ∷ PlanChange 2 [] None ∷ Stopping (Payer 1) ∷ PlanChange 1 [] None ∷ [])
+world_refusals : refusals one (Delivery 99 ∷ Stopping (Switch 2) ∷ Stopping (Switch 2) ∷ Starting (Pharmacy 1) ∷ Ticking 9 ∷ Delivery 0 ∷ PlanChange 2 (SetPrice [] None) ∷ Stopping (Payer 1) ∷ PlanChange 1 (SetTerms 0 0) ∷ [])
     ≡ Some NoSuchPacket ∷ None ∷ Some Down ∷ Some AlreadyUp ∷ Some NoSuchNode ∷ Some NoSuchPacket ∷ Some NoSuchNode ∷ None ∷ Some Down ∷ []
 unfolding one step answered readable transaction_code ruling judged submitted ticked due requested responded heard stopped started counted held refusals_by pharmacy
 world_refusals = refl

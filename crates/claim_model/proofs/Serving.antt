@@ -74,7 +74,7 @@ asks_still before more (Ticking n) a e = e
 asks_still before more (Delivery k) a e = asks_with before more k a (numbered before k) refl e
 asks_still before more (Stopping node) a e = e
 asks_still before more (Starting node) a e = e
-asks_still before more (PlanChange n product price) a e = e
+asks_still before more (PlanChange n change) a e = e
 asks_still before more (Adjudication k advice) a e = asks_adjudicated before more k advice a (numbered before k) refl e
 
 -- a node that makes no call stays as it is

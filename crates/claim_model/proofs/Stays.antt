@@ -92,13 +92,13 @@ pharmacy_on ctx (Up j) next (Take from bytes) sent e = takes_on ctx j (ctx.read_
 pharmacy_on ctx (Up j) next Stop sent e = subst (λ y. Goes_on (stopped j) (journal_in y)) (done_same (AtRest (stopped j)) next [] sent e).0 (on_same (stopped j))
 pharmacy_on ctx (AtRest j) next Start sent e = subst (λ y. Goes_on j (journal_in y)) (done_same (Up (started j)) next [] sent e).0 (on_equal j (stopped (started j)) (started_same j))
 pharmacy_on ctx (Up j) next Start sent e = absurd cc
-pharmacy_on ctx (Up j) next (Reprice product price) sent e = absurd cc
+pharmacy_on ctx (Up j) next (Reprice change) sent e = absurd cc
 pharmacy_on ctx (Up j) next (Adjudicate from bytes advice) sent e = absurd cc
 pharmacy_on ctx (AtRest j) next (Submit text) sent e = absurd cc
 pharmacy_on ctx (AtRest j) next Tick sent e = absurd cc
 pharmacy_on ctx (AtRest j) next (Take from bytes) sent e = absurd cc
 pharmacy_on ctx (AtRest j) next Stop sent e = absurd cc
-pharmacy_on ctx (AtRest j) next (Reprice product price) sent e = absurd cc
+pharmacy_on ctx (AtRest j) next (Reprice change) sent e = absurd cc
 pharmacy_on ctx (AtRest j) next (Adjudicate from bytes advice) sent e = absurd cc
 
 -- books

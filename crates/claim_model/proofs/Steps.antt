@@ -168,5 +168,5 @@ step_asked ctx w (Ticking n) = refl
 step_asked ctx w (Delivery k) = delivery_asks ctx w (numbered w.packets k)
 step_asked ctx w (Stopping node) = refl
 step_asked ctx w (Starting node) = refl
-step_asked ctx w (PlanChange n product price) = refl
+step_asked ctx w (PlanChange n change) = refl
 step_asked ctx w (Adjudication k advice) = adjudication_asks ctx w advice (numbered w.packets k)

@@ -194,13 +194,13 @@ taken ctx given w (AtRest cap) next Start sent laws x all c e =
 taken ctx given w (Up t) next (Submit text) sent laws x all c e = absurd cc
 taken ctx given w (Up t) next Tick sent laws x all c e = absurd cc
 taken ctx given w (Up t) next Start sent laws x all c e = absurd cc
-taken ctx given w (Up t) next (Reprice product price) sent laws x all c e = absurd cc
+taken ctx given w (Up t) next (Reprice change) sent laws x all c e = absurd cc
 taken ctx given w (Up t) next (Adjudicate from bytes advice) sent laws x all c e = absurd cc
 taken ctx given w (AtRest cap) next (Submit text) sent laws x all c e = absurd cc
 taken ctx given w (AtRest cap) next Tick sent laws x all c e = absurd cc
 taken ctx given w (AtRest cap) next (Take from bytes) sent laws x all c e = absurd cc
 taken ctx given w (AtRest cap) next Stop sent laws x all c e = absurd cc
-taken ctx given w (AtRest cap) next (Reprice product price) sent laws x all c e = absurd cc
+taken ctx given w (AtRest cap) next (Reprice change) sent laws x all c e = absurd cc
 taken ctx given w (AtRest cap) next (Adjudicate from bytes advice) sent laws x all c e = absurd cc
 
 pub switch_sound : (ctx : Context) (given : WorldSettings) (w : World) (n : ℕ) (s next : Power Table ℕ) (call : Call) (sent : List Sent)

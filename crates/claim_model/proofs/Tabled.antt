@@ -184,13 +184,13 @@ switch_stands given ctx (AtRest cap) next Start sent some h e = let same : Up (r
 switch_stands given ctx (Up t) next (Submit text) sent some h e = absurd cc
 switch_stands given ctx (Up t) next Tick sent some h e = absurd cc
 switch_stands given ctx (Up t) next Start sent some h e = absurd cc
-switch_stands given ctx (Up t) next (Reprice product price) sent some h e = absurd cc
+switch_stands given ctx (Up t) next (Reprice change) sent some h e = absurd cc
 switch_stands given ctx (Up t) next (Adjudicate from bytes advice) sent some h e = absurd cc
 switch_stands given ctx (AtRest cap) next (Submit text) sent some h e = absurd cc
 switch_stands given ctx (AtRest cap) next Tick sent some h e = absurd cc
 switch_stands given ctx (AtRest cap) next (Take from bytes) sent some h e = absurd cc
 switch_stands given ctx (AtRest cap) next Stop sent some h e = absurd cc
-switch_stands given ctx (AtRest cap) next (Reprice product price) sent some h e = absurd cc
+switch_stands given ctx (AtRest cap) next (Reprice change) sent some h e = absurd cc
 switch_stands given ctx (AtRest cap) next (Adjudicate from bytes advice) sent some h e = absurd cc
 
 -- ---- all switches of a world

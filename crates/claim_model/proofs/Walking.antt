@@ -76,7 +76,7 @@ again v m (Ticking n) a all e = record { event = Ticking n; asks = e }
 again v m (Delivery k) a all e = delivered_again v m k a (numbered v.packets k) all refl e
 again v m (Stopping node) a all e = record { event = Stopping node; asks = e }
 again v m (Starting node) a all e = record { event = Starting node; asks = e }
-again v m (PlanChange n product price) a all e = record { event = PlanChange n product price; asks = e }
+again v m (PlanChange n change) a all e = record { event = PlanChange n change; asks = e }
 again v m (Adjudication k advice) a all e = adjudicated_again v m k advice a (numbered v.packets k) all refl e
 
 -- what two logs share

@@ -12,8 +12,8 @@ use Rattle.claim_profile.specs.Order.{order_of}
 use Rattle.claim_profile.specs.Answer.{answer_text}
 use Rattle.claim_profile.specs.Ruling.{AnswerParts, answer_of}
 use Rattle.plan_rules.specs.Pricing.{paid}
-use Rattle.plan_rules.specs.Terms.{repriced, cleared}
-use Rattle.claim_model.specs.Words.{RequestHeader, Order, Code, Plan, PlanFault, Answer, Envelope, EnvelopeFault}
+use Rattle.plan_rules.specs.Terms.{changed}
+use Rattle.claim_model.specs.Words.{RequestHeader, Order, Code, Answer, Envelope, EnvelopeFault}
 use Rattle.claim_model.specs.Context.{Context}
 
 abbrev pub header_in : Option (TransmissionParts RequestHeader) → Option RequestHeader
@@ -38,11 +38,6 @@ abbrev pub answer_in : Result AnswerParts AnswerFault → Option Answer
 answer_in (Ok a) = Some (record { header = a.header; rulings = a.rulings })
 answer_in (Err fault) = None
 
--- a product with a new price, or without one
-abbrev pub reprice : Plan → List ℕ → Option ℕ → Result Plan PlanFault
-reprice plan product (Some price) = repriced plan product price
-reprice plan product None = Ok (cleared plan product)
-
 -- the reading of bytes with these routes
 abbrev pub bytes_with : RouteMaps → Context
 bytes_with routes = record {
@@ -50,7 +45,7 @@ bytes_with routes = record {
   orders = λ text. orders_in (transmission_of request_kind text);
   route = λ number key. payer_under routes number key;
   price = paid;
-  reprice = reprice;
+  reprice = changed;
   answer = answer_text;
   read_answer = λ text. answer_in (answer_of text);
   envelope = λ e. envelope_text e.kind e.id e.payload;

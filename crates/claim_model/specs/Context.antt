@@ -1,6 +1,6 @@
 -- How bytes are read and written, which the model takes as it is: every definition and theorem is for any such reading.
 use Rattle.std.specs.Prelude.{ℕ, List, Option, Result}
-use Rattle.claim_model.specs.Words.{RequestHeader, Order, Code, Plan, Claim, Amounts, PlanFault, Status, Ruling, Answer, Envelope, EnvelopeFault, RouteKey}
+use Rattle.claim_model.specs.Words.{RequestHeader, Order, Code, Plan, Claim, Amounts, PlanFault, Status, Ruling, Answer, Envelope, EnvelopeFault, RouteKey, Change}
 
 pub record Context : Type 0 where
   -- the header of a text that is framed as a request; none where the framing refuses it
@@ -12,7 +12,7 @@ pub record Context : Type 0 where
   -- what a plan pays for a claim; none where the product is not on the plan
   pub price : Plan → Claim → Option Amounts
   -- the plan with a new price for a product, or without the product
-  pub reprice : Plan → List ℕ → Option ℕ → Result Plan PlanFault
+  pub reprice : Plan → Change → Result Plan PlanFault
   -- the text of an answer to a request with this header
   pub answer : RequestHeader → Status → List Ruling → List ℕ
   -- the answer that a text spells; none where the text is no answer

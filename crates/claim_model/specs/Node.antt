@@ -1,6 +1,6 @@
 -- One call on one node, up or at rest.
 use Rattle.std.specs.Prelude.{ℕ, cond, List, [], ◌∷◌, map, Option, Result, Ok, Err}
-use Rattle.claim_model.specs.Words.{TxnId, Envelope, EnvelopeFault, Plan, PlanFault, Ruling}
+use Rattle.claim_model.specs.Words.{TxnId, Envelope, EnvelopeFault, Plan, PlanFault, Ruling, Change}
 use Rattle.claim_model.specs.Context.{Context}
 use Rattle.claim_model.specs.Readable.{is_request, answer_envelope, rulings_in}
 use Rattle.claim_model.specs.Refusal.{Refusal, NoSuchNode, Down, AlreadyUp, NoEnvelope, NotPriced, Unreadable, NotAsked}
@@ -27,7 +27,7 @@ pub data Call : Type 0 where
   Take : (from : Node) → (bytes : List ℕ) → Call
   Stop : Call
   Start : Call
-  Reprice : (product : List ℕ) → (price : Option ℕ) → Call
+  Reprice : Change → Call
   Adjudicate : (from : Node) → (bytes : List ℕ) → (advice : List ℕ) → Call
 
 -- a node is up, or at rest with what it keeps
@@ -63,7 +63,7 @@ pharmacy_up ctx j Tick = Done (Up (ticked j)) (map to_switch (due ctx (ticked j)
 pharmacy_up ctx j (Take from bytes) = pharmacy_takes ctx j (ctx.read_envelope bytes)
 pharmacy_up ctx j Stop = Done (AtRest (stopped j)) []
 pharmacy_up ctx j Start = Refused AlreadyUp
-pharmacy_up ctx j (Reprice product price) = Refused NoSuchNode
+pharmacy_up ctx j (Reprice change) = Refused NoSuchNode
 pharmacy_up ctx j (Adjudicate from bytes advice) = Refused NoSuchNode
 
 abbrev pub pharmacy_at_rest : JournalAtRest → Call → Outcome (Power Journal JournalAtRest)
@@ -72,7 +72,7 @@ pharmacy_at_rest j Tick = Refused Down
 pharmacy_at_rest j (Take from bytes) = Refused Down
 pharmacy_at_rest j Stop = Refused Down
 pharmacy_at_rest j Start = Done (Up (started j)) []
-pharmacy_at_rest j (Reprice product price) = Refused NoSuchNode
+pharmacy_at_rest j (Reprice change) = Refused NoSuchNode
 pharmacy_at_rest j (Adjudicate from bytes advice) = Refused NoSuchNode
 
 -- a call on a pharmacy
@@ -104,7 +104,7 @@ switch_up ctx t Tick = Refused NoSuchNode
 switch_up ctx t (Take from bytes) = switch_takes ctx t (ctx.read_envelope bytes)
 switch_up ctx t Stop = Done (AtRest t.cap) []
 switch_up ctx t Start = Refused AlreadyUp
-switch_up ctx t (Reprice product price) = Refused NoSuchNode
+switch_up ctx t (Reprice change) = Refused NoSuchNode
 switch_up ctx t (Adjudicate from bytes advice) = Refused NoSuchNode
 
 abbrev pub switch_at_rest : ℕ → Call → Outcome (Power Table ℕ)
@@ -113,7 +113,7 @@ switch_at_rest cap Tick = Refused NoSuchNode
 switch_at_rest cap (Take from bytes) = Refused Down
 switch_at_rest cap Stop = Refused Down
 switch_at_rest cap Start = Done (Up (record { cap = cap; entries = [] })) []
-switch_at_rest cap (Reprice product price) = Refused NoSuchNode
+switch_at_rest cap (Reprice change) = Refused NoSuchNode
 switch_at_rest cap (Adjudicate from bytes advice) = Refused NoSuchNode
 
 -- a call on a switch
@@ -145,7 +145,7 @@ payer_up ctx b Tick = Refused NoSuchNode
 payer_up ctx b (Take from bytes) = payer_takes ctx b unadvised from (ctx.read_envelope bytes)
 payer_up ctx b Stop = Done (AtRest b) []
 payer_up ctx b Start = Refused AlreadyUp
-payer_up ctx b (Reprice product price) = after_reprice b (ctx.reprice b.plan product price)
+payer_up ctx b (Reprice change) = after_reprice b (ctx.reprice b.plan change)
 payer_up ctx b (Adjudicate from bytes advice) = cond b.settings.asks (payer_takes ctx b (advice_in ctx advice) from (ctx.read_envelope bytes)) (Refused NotAsked)
 
 abbrev pub payer_at_rest : Book → Call → Outcome (Power Book Book)
@@ -154,7 +154,7 @@ payer_at_rest b Tick = Refused NoSuchNode
 payer_at_rest b (Take from bytes) = Refused Down
 payer_at_rest b Stop = Refused Down
 payer_at_rest b Start = Done (Up b) []
-payer_at_rest b (Reprice product price) = Refused Down
+payer_at_rest b (Reprice change) = Refused Down
 payer_at_rest b (Adjudicate from bytes advice) = Refused Down
 
 -- a call on a payer

@@ -67,7 +67,7 @@ asked packets (Ticking n) = Some (record { node = Pharmacy n; call = Tick })
 asked packets (Delivery k) = option_map taking (numbered packets k)
 asked packets (Stopping node) = Some (record { node = node; call = Stop })
 asked packets (Starting node) = Some (record { node = node; call = Start })
-asked packets (PlanChange n product price) = Some (record { node = Payer n; call = Reprice product price })
+asked packets (PlanChange n change) = Some (record { node = Payer n; call = Reprice change })
 asked packets (Adjudication k advice) = option_map (adjudicating advice) (numbered packets k)
 
 -- that call, in a world

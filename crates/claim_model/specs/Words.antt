@@ -20,7 +20,7 @@ pub use Rattle.claim_profile.specs.declared.ruling.Ruling.TheVariants.{Paid, Dup
 pub use Rattle.claim_profile.specs.declared.ruling.HeaderStatus.{HeaderStatus as Status}
 pub use Rattle.claim_profile.specs.declared.ruling.HeaderStatus.TheVariants.{Accepted as AcceptedStatus, Rejected as RejectedStatus}
 pub use Rattle.bin_routes.specs.Key.{RouteKey}
-pub use Rattle.plan_rules.specs.Terms.{Terms as Plan}
+pub use Rattle.plan_rules.specs.Terms.{Terms as Plan, Change, SetPrice, SetTerms}
 pub use Rattle.plan_rules.specs.declared.fault.PlanFault.{PlanFault}
 
 -- an answer that was read: its header and one ruling for each group

@@ -1,5 +1,6 @@
 -- The world of all nodes: every journal, table and book, and every packet that was ever sent.
 use Rattle.std.specs.Prelude.{ℕ, List, [], ◌∷◌, ◌++◌, map, Option, Some, None}
+use Rattle.claim_model.specs.Words.{Change}
 use Rattle.claim_model.specs.Context.{Context}
 use Rattle.claim_model.specs.Refusal.{NoSuchNode, NoSuchPacket}
 use Rattle.claim_model.specs.Rows.{Book}
@@ -29,7 +30,7 @@ pub data Event : Type 0 where
   Delivery : (packet : ℕ) → Event
   Stopping : Node → Event
   Starting : Node → Event
-  PlanChange : (payer : ℕ) → (product : List ℕ) → (price : Option ℕ) → Event
+  PlanChange : (payer : ℕ) → Change → Event
   Adjudication : (packet : ℕ) → (advice : List ℕ) → Event
 
 abbrev pub packet_from : Node → Sent → Packet
@@ -86,7 +87,7 @@ step ctx w (Ticking n) = on_node ctx w (Pharmacy n) Tick
 step ctx w (Delivery k) = delivered ctx w (numbered w.packets k)
 step ctx w (Stopping node) = on_node ctx w node Stop
 step ctx w (Starting node) = on_node ctx w node Start
-step ctx w (PlanChange n product price) = on_node ctx w (Payer n) (Reprice product price)
+step ctx w (PlanChange n change) = on_node ctx w (Payer n) (Reprice change)
 step ctx w (Adjudication k advice) = adjudicated ctx w advice (numbered w.packets k)
 
 abbrev pub world_after : World → Outcome World → World

@@ -36,7 +36,7 @@ length_is old n (Ticking m ∷ events) all = let r = length_is old n events all.
 length_is old n (Delivery k ∷ events) all = let r = length_is old n events all.1 in omega (arith, r)
 length_is old n (Stopping node ∷ events) all = absurd all.0
 length_is old n (Starting node ∷ events) all = let r = length_is old n events all.1 in omega (arith, r)
-length_is old n (PlanChange m product price ∷ events) all = absurd all.0
+length_is old n (PlanChange m change ∷ events) all = absurd all.0
 length_is old n (Adjudication k advice ∷ events) all = let r = length_is old n events all.1 in omega (arith, r)
 
 -- help of one pharmacy, later, is help
@@ -46,7 +46,7 @@ helps_by old new n le (Ticking m) h = tt
 helps_by old new n le (Delivery k) h = omega (arith, le, h)
 helps_by old new n le (Stopping node) h = h
 helps_by old new n le (Starting node) h = tt
-helps_by old new n le (PlanChange m product price) h = h
+helps_by old new n le (PlanChange m change) h = h
 helps_by old new n le (Adjudication k advice) h = omega (arith, le, h)
 
 -- ---- entries that are not open

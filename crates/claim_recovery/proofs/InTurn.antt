@@ -28,7 +28,7 @@ ticks_alone n (Ticking m ∷ events) all = ap suc (ticks_alone n events all.1)
 ticks_alone n (Delivery k ∷ events) all = absurd all.0
 ticks_alone n (Stopping node ∷ events) all = absurd all.0
 ticks_alone n (Starting node ∷ events) all = absurd all.0
-ticks_alone n (PlanChange m product price ∷ events) all = absurd all.0
+ticks_alone n (PlanChange m change ∷ events) all = absurd all.0
 ticks_alone n (Adjudication k advice ∷ events) all = absurd all.0
 
 stands_by : (u v : World) (k : ℕ) (p : Packet) → u ≡ v → numbered v.packets k ≡ Some p → numbered u.packets k ≡ Some p

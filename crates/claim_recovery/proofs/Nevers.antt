@@ -41,7 +41,7 @@ CallsFor Q payer (Ticking n) = ⊤
 CallsFor Q payer (Delivery k) = (from : Node) (bytes : List ℕ) → Q (Take from bytes)
 CallsFor Q payer (Stopping node) = Q Stop
 CallsFor Q payer (Starting node) = Q Start
-CallsFor Q payer (PlanChange n product price) = n ≡ payer → Q (Reprice product price)
+CallsFor Q payer (PlanChange n change) = n ≡ payer → Q (Reprice change)
 CallsFor Q payer (Adjudication k advice) = (from : Node) (bytes : List ℕ) → Q (Adjudicate from bytes advice)
 
 abbrev pub Keeps : Context → (Book → Type 0) → (Call → Type 0) → Type 0
@@ -89,7 +89,7 @@ at_event ctx P Q w v payer (Ticking n) sent k q h e = at_pharmacy ctx P w v paye
 at_event ctx P Q w v payer (Delivery i) sent k q h e = at_delivery ctx P Q w v payer sent (numbered w.packets i) k q h e
 at_event ctx P Q w v payer (Stopping node) sent k q h e = at_node ctx P Q w v payer node Stop sent k q h e
 at_event ctx P Q w v payer (Starting node) sent k q h e = at_node ctx P Q w v payer node Start sent k q h e
-at_event ctx P Q w v payer (PlanChange n product price) sent k q h e = at_payer ctx P Q w v payer n (Reprice product price) sent (numbered w.payers n) k q h refl e
+at_event ctx P Q w v payer (PlanChange n change) sent k q h e = at_payer ctx P Q w v payer n (Reprice change) sent (numbered w.payers n) k q h refl e
 at_event ctx P Q w v payer (Adjudication i advice) sent k q h e = at_adjudication ctx P Q w v payer advice sent (numbered w.packets i) k q h e
 
 at_outcome : (ctx : Context) (P : Book → Type 0) (Q : Call → Type 0) (w : World) (payer : ℕ) (event : Event) (o : Outcome World) → Keeps ctx P Q → CallsFor Q payer event → Holds P payer w → step ctx w event ≡ o → Holds P payer (world_after w o)
@@ -173,7 +173,7 @@ full_keeps ctx id (Up b) next (Take from bytes) sent q f e = full_takes ctx id b
 full_keeps ctx id (Up b) next (Adjudicate from bytes advice) sent q f e =
     full_takes ctx id b (advice_in ctx advice) from (ctx.read_envelope bytes) next sent f (asked_first b.settings.asks _ next sent e).1
 full_keeps ctx id (Up b) next Stop sent q f e = subst (λ (x : Power Book Book). IsFull id (book_in x)) (done_same (AtRest b) next [] sent e).0 f
-full_keeps ctx id (Up b) next (Reprice product price) sent q f e = full_reprice id b (ctx.reprice b.plan product price) next sent f e
+full_keeps ctx id (Up b) next (Reprice change) sent q f e = full_reprice id b (ctx.reprice b.plan change) next sent f e
 full_keeps ctx id (AtRest b) next Start sent q f e = subst (λ (x : Power Book Book). IsFull id (book_in x)) (done_same (Up b) next [] sent e).0 f
 full_keeps ctx id (Up b) next (Submit text) sent q f e = absurd cc
 full_keeps ctx id (Up b) next Tick sent q f e = absurd cc
@@ -182,7 +182,7 @@ full_keeps ctx id (AtRest b) next (Submit text) sent q f e = absurd cc
 full_keeps ctx id (AtRest b) next Tick sent q f e = absurd cc
 full_keeps ctx id (AtRest b) next (Take from bytes) sent q f e = absurd cc
 full_keeps ctx id (AtRest b) next Stop sent q f e = absurd cc
-full_keeps ctx id (AtRest b) next (Reprice product price) sent q f e = absurd cc
+full_keeps ctx id (AtRest b) next (Reprice change) sent q f e = absurd cc
 full_keeps ctx id (AtRest b) next (Adjudicate from bytes advice) sent q f e = absurd cc
 
 any_calls : (payer : ℕ) (event : Event) → CallsFor AnyCall payer event
@@ -192,7 +192,7 @@ any_calls payer (Ticking n) = tt
 any_calls payer (Delivery k) = λ from bytes. tt
 any_calls payer (Stopping node) = tt
 any_calls payer (Starting node) = tt
-any_calls payer (PlanChange n product price) = λ same. tt
+any_calls payer (PlanChange n change) = λ same. tt
 any_calls payer (Adjudication k advice) = λ from bytes. tt
 
 all_calls : (payer : ℕ) (events : List Event) → AllByRecursion (CallsFor AnyCall payer) events

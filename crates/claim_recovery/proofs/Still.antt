@@ -82,7 +82,7 @@ IsQuietCall Tick = ⊤
 IsQuietCall (Take from bytes) = ⊤
 IsQuietCall Stop = ⊥
 IsQuietCall Start = ⊥
-IsQuietCall (Reprice product price) = ⊥
+IsQuietCall (Reprice change) = ⊥
 IsQuietCall (Adjudicate from bytes advice) = ⊤
 
 takes_nothing : (ctx : Context) (j : Journal) (r : Result Envelope EnvelopeFault) (next : Power Journal JournalAtRest) (sent : List Sent) → AllSettled (stopped j) → pharmacy_takes ctx j r ≡ Done next sent → next ≡ Up j
@@ -103,7 +103,7 @@ still_pharmacy ctx (AtRest j) next (Adjudicate from bytes advice) sent all q e =
 still_pharmacy ctx s next (Submit text) sent all q e = absurd q
 still_pharmacy ctx s next Stop sent all q e = absurd q
 still_pharmacy ctx s next Start sent all q e = absurd q
-still_pharmacy ctx s next (Reprice product price) sent all q e = absurd q
+still_pharmacy ctx s next (Reprice change) sent all q e = absurd q
 
 abbrev SparesCall : ℕ → Node → Call → Type 0
 SparesCall n (Pharmacy m) call = m ≡ n → IsQuietCall call
@@ -168,7 +168,7 @@ at_event ctx w v n s (Ticking m) sent is all q e = at_node ctx w v n s (Pharmacy
 at_event ctx w v n s (Delivery k) sent is all q e = at_delivery ctx w v n s sent (numbered w.packets k) is all e
 at_event ctx w v n s (Stopping node) sent is all q e = at_node ctx w v n s node Stop sent is all (other_spares n node Stop q) e
 at_event ctx w v n s (Starting node) sent is all q e = at_node ctx w v n s node Start sent is all (other_spares n node Start q) e
-at_event ctx w v n s (PlanChange m product price) sent is all q e = at_node ctx w v n s (Payer m) (Reprice product price) sent is all tt e
+at_event ctx w v n s (PlanChange m change) sent is all q e = at_node ctx w v n s (Payer m) (Reprice change) sent is all tt e
 at_event ctx w v n s (Adjudication k advice) sent is all q e = at_adjudication ctx w v n s advice sent (numbered w.packets k) is all e
 
 at_outcome : (ctx : Context) (w : World) (n : ℕ) (s : Power Journal JournalAtRest) (event : Event) (o : Outcome World) → numbered w.pharmacies n ≡ Some s → AllSettled (journal_in s) → Spares n event → step ctx w event ≡ o → numbered (world_after w o).pharmacies n ≡ Some s

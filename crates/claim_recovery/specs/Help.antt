@@ -33,7 +33,7 @@ Helps old (Ticking n) = ⊤
 Helps old (Delivery k) = old < k
 Helps old (Stopping node) = ⊥
 Helps old (Starting node) = ⊤
-Helps old (PlanChange n product price) = ⊥
+Helps old (PlanChange n change) = ⊥
 Helps old (Adjudication k advice) = old < k
 
 -- the same, with ticks of one pharmacy alone
@@ -43,7 +43,7 @@ HelpsOne old pharmacy (Ticking n) = n ≡ pharmacy
 HelpsOne old pharmacy (Delivery k) = old < k
 HelpsOne old pharmacy (Stopping node) = ⊥
 HelpsOne old pharmacy (Starting node) = ⊤
-HelpsOne old pharmacy (PlanChange n product price) = ⊥
+HelpsOne old pharmacy (PlanChange n change) = ⊥
 HelpsOne old pharmacy (Adjudication k advice) = old < k
 
 abbrev pub IsNoSwitch : Node → Type 0
@@ -58,7 +58,7 @@ HelpsWithoutSwitch old pharmacy (Ticking n) = n ≡ pharmacy
 HelpsWithoutSwitch old pharmacy (Delivery k) = old < k
 HelpsWithoutSwitch old pharmacy (Stopping node) = ⊥
 HelpsWithoutSwitch old pharmacy (Starting node) = IsNoSwitch node
-HelpsWithoutSwitch old pharmacy (PlanChange n product price) = ⊥
+HelpsWithoutSwitch old pharmacy (PlanChange n change) = ⊥
 HelpsWithoutSwitch old pharmacy (Adjudication k advice) = old < k
 
 abbrev pub is_tick : Event → Bool
@@ -67,7 +67,7 @@ is_tick (Ticking n) = true
 is_tick (Delivery k) = false
 is_tick (Stopping node) = false
 is_tick (Starting node) = false
-is_tick (PlanChange n product price) = false
+is_tick (PlanChange n change) = false
 is_tick (Adjudication k advice) = false
 
 abbrev pub is_delivery : Event → Bool
@@ -76,7 +76,7 @@ is_delivery (Ticking n) = false
 is_delivery (Delivery k) = true
 is_delivery (Stopping node) = false
 is_delivery (Starting node) = false
-is_delivery (PlanChange n product price) = false
+is_delivery (PlanChange n change) = false
 is_delivery (Adjudication k advice) = true
 
 abbrev pub is_start : Event → Bool
@@ -85,7 +85,7 @@ is_start (Ticking n) = false
 is_start (Delivery k) = false
 is_start (Stopping node) = false
 is_start (Starting node) = true
-is_start (PlanChange n product price) = false
+is_start (PlanChange n change) = false
 is_start (Adjudication k advice) = false
 
 -- how many events of a kind a list has

@@ -28,7 +28,7 @@ Spares n (Ticking m) = ⊤
 Spares n (Delivery k) = ⊤
 Spares n (Stopping node) = IsOther n node
 Spares n (Starting node) = IsOther n node
-Spares n (PlanChange m product price) = ⊤
+Spares n (PlanChange m change) = ⊤
 Spares n (Adjudication k advice) = ⊤
 
 -- a tick of such a pharmacy sends nothing and changes nothing at all

@@ -1,7 +1,7 @@
 -- What a book must have to answer a new request, and what it means to be never answered.
 use Rattle.std.specs.Prelude.{◌≡◌, ℕ, ◌+◌, ◌<◌, ◌≤◌, false, List, [], ◌∷◌, length, slice_get, ⊤, Option, Some, None, IsSome, Result, Ok}
 use Rattle.std.specs.List.{AllByRecursion}
-use Rattle.claim_model.specs.Words.{TxnId, RequestHeader, Claim, Order, Bills, Code, NotCovered, Ruling, Rejected, Plan, Amounts}
+use Rattle.claim_model.specs.Words.{TxnId, RequestHeader, Claim, Order, Bills, Code, NotCovered, Ruling, Rejected, Plan, Amounts, Change}
 use Rattle.claim_model.specs.Context.{Context}
 use Rattle.claim_model.specs.Readable.{readable, payer_for}
 use Rattle.claim_model.specs.Rows.{Book, ruled_rows}
@@ -44,7 +44,7 @@ KeepsPlan payer (Ticking n) = ⊤
 KeepsPlan payer (Delivery k) = ⊤
 KeepsPlan payer (Stopping node) = ⊤
 KeepsPlan payer (Starting node) = ⊤
-KeepsPlan payer (PlanChange n product price) = n ≡ payer → ⊥
+KeepsPlan payer (PlanChange n change) = n ≡ payer → ⊥
 KeepsPlan payer (Adjudication k advice) = ⊤
 
 -- an advice has a verdict on each claim of some orders, at its place
@@ -73,9 +73,9 @@ abbrev pub with_plan : Book → Plan → Book
 with_plan b plan = record { payer = b.payer; settings = b.settings; plan = plan; rows = b.rows }
 
 -- after a change of plan the entry can be answered, and each of its claims that has no standing payment is then rejected with 70
-pub record RejectedAfter (ctx : Context) (w : World) (journal : JournalAtRest) (id : TxnId) (request : List ℕ) (payer : ℕ) (b : Book) (product : List ℕ) (price : Option ℕ) (plan : Plan) : Type 0 where
+pub record RejectedAfter (ctx : Context) (w : World) (journal : JournalAtRest) (id : TxnId) (request : List ℕ) (payer : ℕ) (b : Book) (change : Change) (plan : Plan) : Type 0 where
   pub world : World
-  pub changes : step ctx w (PlanChange payer product price) ≡ Done world []
+  pub changes : step ctx w (PlanChange payer change) ≡ Done world []
   pub recovered : Recovered ctx world journal id
   pub answer : Answered
   pub answers : answered ctx (with_plan b plan) unadvised id request ≡ Ok answer

@@ -16,7 +16,7 @@ IsTickOf n (Ticking m) = m ≡ n
 IsTickOf n (Delivery k) = ⊥
 IsTickOf n (Stopping node) = ⊥
 IsTickOf n (Starting node) = ⊥
-IsTickOf n (PlanChange m product price) = ⊥
+IsTickOf n (PlanChange m change) = ⊥
 IsTickOf n (Adjudication k advice) = ⊥
 
 -- after at most this many accepted ticks of its pharmacy, the request of an id was sent to this switch, later than this moment

@@ -3,7 +3,7 @@
 ghost use Rattle.bin_routes.specs.Table.{RouteMaps};
 ghost use Rattle.std.specs.Prelude.{◌≡◌, ℕ, ◌<◌, ◌≤◌, true, false, List, length, Option, Some, None, Ok};
 ghost use Rattle.plan_rules.specs.Terms.{cleared};
-ghost use Rattle.claim_model.specs.Words.{TxnId, RequestHeader, Plan};
+ghost use Rattle.claim_model.specs.Words.{TxnId, RequestHeader, Plan, Change, SetPrice};
 ghost use Rattle.claim_model.specs.Bytes.{bytes_with};
 ghost use Rattle.claim_model.specs.Context.{Context};
 ghost use Rattle.claim_model.specs.Rows.{Book, ruled_rows};
@@ -70,19 +70,18 @@ pub fn without_serials_no_answer()
 /// the book has room: each of its claims without a standing payment is then rejected with 70.
 pub fn a_plan_change_lets_it_be_rejected()
     ensures { (ctx : Context) (settings : WorldSettings) (w : World) (journal : JournalAtRest) (id : TxnId)
-        (request : List ℕ) (header : RequestHeader) (payer : ℕ) (b : Book) (product : List ℕ) (price : Option ℕ)
-        (plan : Plan) → Reached ctx settings w → Timely settings → journal_at w id.pharmacy ≡ Some journal
+        (request : List ℕ) (header : RequestHeader) (payer : ℕ) (b : Book) (change : Change) (plan : Plan) → Reached ctx settings w → Timely settings → journal_at w id.pharmacy ≡ Some journal
         → IsOpen w id request → IsAskedOf ctx w id request header payer b → numbered w.payers payer ≡ Some (Up b)
         → row_of id b.rows ≡ None → b.settings.asks ≡ false → length b.rows < b.settings.cap
-        → ctx.reprice b.plan product price ≡ Ok plan
-        → PaysNone ctx plan request → RejectedAfter ctx w journal id request payer b product price plan }
+        → ctx.reprice b.plan change ≡ Ok plan
+        → PaysNone ctx plan request → RejectedAfter ctx w journal id request payer b change plan }
 {}
 
 /// As the crates below read bytes, taking a product off the plan is such a change for every request whose claims
 /// are all for this product.
 pub fn clearing_the_product_is_such_a_change()
     ensures reprices { (routes : RouteMaps) (plan : Plan) (product : List ℕ)
-        → (bytes_with routes).reprice plan product None ≡ Ok (cleared plan product) }
+        → (bytes_with routes).reprice plan (SetPrice product None) ≡ Ok (cleared plan product) }
     ensures pays_none { (routes : RouteMaps) (plan : Plan) (product request : List ℕ)
         → AsksOnlyFor (bytes_with routes) product request
         → PaysNone (bytes_with routes) (cleared plan product) request }

@@ -106,14 +106,14 @@ switch_keeps ctx c (Up t) Stop k = k
 switch_keeps ctx c (Up t) (Submit text) k = tt
 switch_keeps ctx c (Up t) Tick k = tt
 switch_keeps ctx c (Up t) Start k = tt
-switch_keeps ctx c (Up t) (Reprice product price) k = tt
+switch_keeps ctx c (Up t) (Reprice change) k = tt
 switch_keeps ctx c (Up t) (Adjudicate from bytes advice) k = tt
 switch_keeps ctx c (AtRest cap) Start k = k
 switch_keeps ctx c (AtRest cap) (Submit text) k = tt
 switch_keeps ctx c (AtRest cap) Tick k = tt
 switch_keeps ctx c (AtRest cap) (Take from bytes) k = tt
 switch_keeps ctx c (AtRest cap) Stop k = tt
-switch_keeps ctx c (AtRest cap) (Reprice product price) k = tt
+switch_keeps ctx c (AtRest cap) (Reprice change) k = tt
 switch_keeps ctx c (AtRest cap) (Adjudicate from bytes advice) k = tt
 
 -- a switch of this cap

@@ -361,7 +361,7 @@ enabled ctx s w packets (Pharmacy n) (Submit text) now next sent r up among sour
 enabled ctx s w packets (Pharmacy n) Tick now next sent r up among sources is steps x = by_itself ctx s w (Pharmacy n) Tick (Ticking n) r up refl
 enabled ctx s w packets (Pharmacy n) Stop now next sent r up among sources is steps x = by_itself ctx s w (Pharmacy n) Stop (Stopping (Pharmacy n)) r up refl
 enabled ctx s w packets (Pharmacy n) Start now next sent r up among sources is steps x = by_itself ctx s w (Pharmacy n) Start (Starting (Pharmacy n)) r up refl
-enabled ctx s w packets (Pharmacy n) (Reprice product price) now next sent r up among sources is steps x = absurd x
+enabled ctx s w packets (Pharmacy n) (Reprice change) now next sent r up among sources is steps x = absurd x
 enabled ctx s w packets (Pharmacy n) (Adjudicate from bytes advice) now next sent r up among sources is steps x = absurd x
 enabled ctx s w packets (Payer n) (Take from bytes) now next sent r up among sources is steps x =
     payer_enabled ctx s w n from bytes now next sent x.0 x.2.0 r up is steps x.1 (among (packet (Pharmacy x.2.0) (Switch x.0) bytes) x.2.1)
@@ -369,7 +369,7 @@ enabled ctx s w packets (Payer n) (Submit text) now next sent r up among sources
 enabled ctx s w packets (Payer n) Tick now next sent r up among sources is steps x = absurd x
 enabled ctx s w packets (Payer n) Stop now next sent r up among sources is steps x = by_itself ctx s w (Payer n) Stop (Stopping (Payer n)) r up refl
 enabled ctx s w packets (Payer n) Start now next sent r up among sources is steps x = by_itself ctx s w (Payer n) Start (Starting (Payer n)) r up refl
-enabled ctx s w packets (Payer n) (Reprice product price) now next sent r up among sources is steps x = by_itself ctx s w (Payer n) (Reprice product price) (PlanChange n product price) r up refl
+enabled ctx s w packets (Payer n) (Reprice change) now next sent r up among sources is steps x = by_itself ctx s w (Payer n) (Reprice change) (PlanChange n change) r up refl
 enabled ctx s w packets (Payer n) (Adjudicate from bytes advice) now next sent r up among sources is steps x =
     payer_enabled_advised ctx s w n from bytes advice now next sent x.0 x.2.0 r up is steps x.1 (among (packet (Pharmacy x.2.0) (Switch x.0) bytes) x.2.1)
 enabled ctx s w packets (Switch m) call now next sent r up among sources is steps x = absurd x
@@ -474,7 +474,7 @@ repriced_silent b (Err f) next sent e = absurd cc
 payer_silent_by : (ctx : Context) (b : Power Book Book) (call : Call) (next : Power Book Book) (sent : List Sent) → ((from : Node) (bytes : List ℕ) → call ≡ Take from bytes → ⊥) → ((from : Node) (bytes advice : List ℕ) → call ≡ Adjudicate from bytes advice → ⊥) → payer_step ctx b call ≡ Done next sent → sent ≡ []
 payer_silent_by ctx (Up b) (Take from bytes) next sent d f e = absurd (d from bytes refl)
 payer_silent_by ctx (Up b) Stop next sent d f e = cc
-payer_silent_by ctx (Up b) (Reprice product price) next sent d f e = repriced_silent b (ctx.reprice b.plan product price) next sent e
+payer_silent_by ctx (Up b) (Reprice change) next sent d f e = repriced_silent b (ctx.reprice b.plan change) next sent e
 payer_silent_by ctx (AtRest b) Start next sent d f e = cc
 payer_silent_by ctx (Up b) (Submit text) next sent d f e = absurd cc
 payer_silent_by ctx (Up b) Tick next sent d f e = absurd cc
@@ -483,7 +483,7 @@ payer_silent_by ctx (AtRest b) (Submit text) next sent d f e = absurd cc
 payer_silent_by ctx (AtRest b) Tick next sent d f e = absurd cc
 payer_silent_by ctx (AtRest b) (Take from bytes) next sent d f e = absurd cc
 payer_silent_by ctx (AtRest b) Stop next sent d f e = absurd cc
-payer_silent_by ctx (AtRest b) (Reprice product price) next sent d f e = absurd cc
+payer_silent_by ctx (AtRest b) (Reprice change) next sent d f e = absurd cc
 payer_silent_by ctx (Up b) (Adjudicate from bytes advice) next sent d f e = absurd (f from bytes advice refl)
 payer_silent_by ctx (AtRest b) (Adjudicate from bytes advice) next sent d f e = absurd cc
 
@@ -510,7 +510,7 @@ new_sources ctx s w u packets (Payer n) (Submit text) now next sent r r' among i
 new_sources ctx s w u packets (Payer n) Tick now next sent r r' among is at steps x = absurd x
 new_sources ctx s w u packets (Payer n) Stop now next sent r r' among is at steps x = none_sent ctx packets (Payer n) sent (payer_silent ctx w n Stop now next sent (λ from bytes e. cc) (λ from bytes advice e. cc) is steps)
 new_sources ctx s w u packets (Payer n) Start now next sent r r' among is at steps x = none_sent ctx packets (Payer n) sent (payer_silent ctx w n Start now next sent (λ from bytes e. cc) (λ from bytes advice e. cc) is steps)
-new_sources ctx s w u packets (Payer n) (Reprice product price) now next sent r r' among is at steps x = none_sent ctx packets (Payer n) sent (payer_silent ctx w n (Reprice product price) now next sent (λ from bytes e. cc) (λ from bytes advice e. cc) is steps)
+new_sources ctx s w u packets (Payer n) (Reprice change) now next sent r r' among is at steps x = none_sent ctx packets (Payer n) sent (payer_silent ctx w n (Reprice change) now next sent (λ from bytes e. cc) (λ from bytes advice e. cc) is steps)
 
 -- ---- turn by turn
 

@@ -126,7 +126,7 @@ asked_so ctx packets wire (Delivery k) a f e =
     subst (AskedSo ctx packets) t.2 (λ d o. call_of ctx packets t.0.to t.0.from t.0.bytes d (f t.0 (record { number = k; is = t.1 })))
 asked_so ctx packets wire (Stopping node) a f e = subst (AskedSo ctx packets) (same_some (record { node = node; call = Stop }) a e) (λ d o. stops ctx packets node d)
 asked_so ctx packets wire (Starting node) a f e = subst (AskedSo ctx packets) (same_some (record { node = node; call = Start }) a e) (λ d o. starts ctx packets node d)
-asked_so ctx packets wire (PlanChange n product price) a f e = subst (AskedSo ctx packets) (same_some (record { node = Payer n; call = Reprice product price }) a e) (λ d o. tt)
+asked_so ctx packets wire (PlanChange n change) a f e = subst (AskedSo ctx packets) (same_some (record { node = Payer n; call = Reprice change }) a e) (λ d o. tt)
 asked_so ctx packets wire (Adjudication k advice) a f e =
     let t = map_some (adjudicating advice) (numbered wire k) a e in
     subst (AskedSo ctx packets) t.2 (λ d o. with_advice ctx packets t.0.to t.0.from t.0.bytes advice (o t.0.from t.0.bytes advice refl) (call_of ctx packets t.0.to t.0.from t.0.bytes d (f t.0 (record { number = k; is = t.1 }))))
@@ -655,7 +655,7 @@ sound_explained ctx s v packets n (Submit text) laws x f e = tt
 sound_explained ctx s v packets n Tick laws x f e = tt
 sound_explained ctx s v packets n Stop laws x f e = tt
 sound_explained ctx s v packets n Start laws x f e = tt
-sound_explained ctx s v packets n (Reprice product price) laws x f e = tt
+sound_explained ctx s v packets n (Reprice change) laws x f e = tt
 sound_explained ctx s v packets n (Adjudicate from bytes advice) laws x f e = absurd e
 
 again_with : (ctx : Context) (r w : World) (id : TxnId) (a : List ℕ) → ComesAgain ctx r id a → ComesAgain ctx (with_switches r w) id a

@@ -105,7 +105,7 @@ comes_again packets wire (Ticking n) a among e = record { event = Ticking n; ask
 comes_again packets wire (Delivery k) a among e = taken_again packets wire k a among e
 comes_again packets wire (Stopping node) a among e = record { event = Stopping node; asks = e }
 comes_again packets wire (Starting node) a among e = record { event = Starting node; asks = e }
-comes_again packets wire (PlanChange n product price) a among e = record { event = PlanChange n product price; asks = e }
+comes_again packets wire (PlanChange n change) a among e = record { event = PlanChange n change; asks = e }
 comes_again packets wire (Adjudication k advice) a among e = advised_again packets wire k advice a among e
 
 calling_on : (ctx : Context) (s : WorldSettings) (n : Network) (events : List Event) (event : Event) (o : Option Asked) → IsSound ctx s n events → asked n.wire event ≡ o → Further ctx s (calling ctx n o) events

@@ -104,7 +104,7 @@ taken_packet packets node from bytes (Submission n text) e = let f : Submit text
 taken_packet packets node from bytes (Ticking n) e = let f : Tick ≡ Take from bytes = same_call node (Pharmacy n) Tick (Take from bytes) e in absurd cc
 taken_packet packets node from bytes (Stopping x) e = let f : Stop ≡ Take from bytes = same_call node x Stop (Take from bytes) e in absurd cc
 taken_packet packets node from bytes (Starting x) e = let f : Start ≡ Take from bytes = same_call node x Start (Take from bytes) e in absurd cc
-taken_packet packets node from bytes (PlanChange n product price) e = let f : Reprice product price ≡ Take from bytes = same_call node (Rattle.claim_model.specs.Node.Payer n) (Reprice product price) (Take from bytes) e in absurd cc
+taken_packet packets node from bytes (PlanChange n change) e = let f : Reprice change ≡ Take from bytes = same_call node (Rattle.claim_model.specs.Node.Payer n) (Reprice change) (Take from bytes) e in absurd cc
 taken_packet packets node from bytes (Adjudication k advice) e =
     let t = map_some (adjudicating advice) (numbered packets k) (record { node = node; call = Take from bytes }) e in
     let f : Adjudicate t.0.from t.0.bytes advice ≡ Take from bytes = ap (λ (x : Asked). x.call) t.2 in
@@ -125,7 +125,7 @@ advised_packet packets node from bytes advice (Submission n text) e = let f : Su
 advised_packet packets node from bytes advice (Ticking n) e = let f : Tick ≡ Adjudicate from bytes advice = same_call node (Pharmacy n) Tick (Adjudicate from bytes advice) e in absurd cc
 advised_packet packets node from bytes advice (Stopping x) e = let f : Stop ≡ Adjudicate from bytes advice = same_call node x Stop (Adjudicate from bytes advice) e in absurd cc
 advised_packet packets node from bytes advice (Starting x) e = let f : Start ≡ Adjudicate from bytes advice = same_call node x Start (Adjudicate from bytes advice) e in absurd cc
-advised_packet packets node from bytes advice (PlanChange n product price) e = let f : Reprice product price ≡ Adjudicate from bytes advice = same_call node (Rattle.claim_model.specs.Node.Payer n) (Reprice product price) (Adjudicate from bytes advice) e in absurd cc
+advised_packet packets node from bytes advice (PlanChange n change) e = let f : Reprice change ≡ Adjudicate from bytes advice = same_call node (Rattle.claim_model.specs.Node.Payer n) (Reprice change) (Adjudicate from bytes advice) e in absurd cc
 
 carries_coming : (ctx : Context) (s : WorldSettings) (v : World) (node from : Node) (bytes : List ℕ) → Sound ctx s v → Comes v.packets node (Take from bytes) → Carries ctx v bytes
 carries_coming ctx s v node from bytes x c =
@@ -166,14 +166,14 @@ call_still ctx s v n (Up j) Tick laws d c = same_journal ctx v n (stopped j) (st
 call_still ctx s v n (Up j) (Take from bytes) laws d c = takes_still ctx s v n j bytes c laws d
 call_still ctx s v n (Up j) Stop laws d c = d
 call_still ctx s v n (Up j) Start laws d c = d
-call_still ctx s v n (Up j) (Reprice product price) laws d c = d
+call_still ctx s v n (Up j) (Reprice change) laws d c = d
 call_still ctx s v n (Up j) (Adjudicate from bytes advice) laws d c = d
 call_still ctx s v n (AtRest j) Start laws d c = same_journal ctx v n j (stopped (started j)) (started_same j) d
 call_still ctx s v n (AtRest j) (Submit text) laws d c = d
 call_still ctx s v n (AtRest j) Tick laws d c = d
 call_still ctx s v n (AtRest j) (Take from bytes) laws d c = d
 call_still ctx s v n (AtRest j) Stop laws d c = d
-call_still ctx s v n (AtRest j) (Reprice product price) laws d c = d
+call_still ctx s v n (AtRest j) (Reprice change) laws d c = d
 call_still ctx s v n (AtRest j) (Adjudicate from bytes advice) laws d c = d
 
 node_still : (ctx : Context) (s : WorldSettings) (v : World) (n : ℕ) (node : AnyNode) (call : Call) → Laws ctx → DecidesNode ctx v n node → SoundCall ctx v call → DecidesNode ctx v n (node_after node (node_step ctx node call))
@@ -194,7 +194,7 @@ sound_coming ctx s v node (Submit text) x c = tt
 sound_coming ctx s v node Tick x c = tt
 sound_coming ctx s v node Stop x c = tt
 sound_coming ctx s v node Start x c = tt
-sound_coming ctx s v node (Reprice product price) x c = tt
+sound_coming ctx s v node (Reprice change) x c = tt
 sound_coming ctx s v node (Adjudicate from bytes advice) x c = carries_advised ctx s v node from bytes advice x c
 
 -- ---- what is in memory was decided on the disks

@@ -93,7 +93,7 @@ CallTracked ctx w packets node (Submit text) = (n : ℕ) × (node ≡ Pharmacy n
 CallTracked ctx w packets node Tick = (n : ℕ) × (node ≡ Pharmacy n)
 CallTracked ctx w packets node Stop = ⊤
 CallTracked ctx w packets node Start = ⊤
-CallTracked ctx w packets node (Reprice product price) = (n : ℕ) × (node ≡ Payer n)
+CallTracked ctx w packets node (Reprice change) = (n : ℕ) × (node ≡ Payer n)
 CallTracked ctx w packets node (Adjudicate from bytes advice) = TrackedFrom ctx packets from node bytes × Carries ctx w bytes
 
 abbrev AskedTracked : Context → World → List Packet → Asked → Type 0
@@ -108,7 +108,7 @@ asked_tracked ctx s w packets (Delivery k) a x e =
     subst (AskedTracked ctx w packets) t.2 (x.each t.0 there, all_at (SoundPacket ctx w) w.packets k t.0 (reached_sound ctx s w x.reached).packets t.1)
 asked_tracked ctx s w packets (Stopping node) a x e = subst (AskedTracked ctx w packets) (same_some (record { node = node; call = Stop }) a e) tt
 asked_tracked ctx s w packets (Starting node) a x e = subst (AskedTracked ctx w packets) (same_some (record { node = node; call = Start }) a e) tt
-asked_tracked ctx s w packets (PlanChange n product price) a x e = subst (AskedTracked ctx w packets) (same_some (record { node = Payer n; call = Reprice product price }) a e) (n, refl)
+asked_tracked ctx s w packets (PlanChange n change) a x e = subst (AskedTracked ctx w packets) (same_some (record { node = Payer n; call = Reprice change }) a e) (n, refl)
 asked_tracked ctx s w packets (Adjudication k advice) a x e =
     let t = map_some (adjudicating advice) (numbered w.packets k) a e in
     let there : IsAmong w.packets t.0 = record { number = k; is = t.1 } in
@@ -139,17 +139,17 @@ explained_of ctx w packets (Pharmacy n) (Submit text) d o x = tt
 explained_of ctx w packets (Pharmacy n) Tick d o x = tt
 explained_of ctx w packets (Pharmacy n) Stop d o x = tt
 explained_of ctx w packets (Pharmacy n) Start d o x = tt
-explained_of ctx w packets (Pharmacy n) (Reprice product price) d o x = absurd (pharmacy_no_payer n x.0 x.1)
+explained_of ctx w packets (Pharmacy n) (Reprice change) d o x = absurd (pharmacy_no_payer n x.0 x.1)
 explained_of ctx w packets (Payer n) (Submit text) d o x = absurd (pharmacy_no_payer x.0 n (sym x.1))
 explained_of ctx w packets (Payer n) Tick d o x = absurd (pharmacy_no_payer x.0 n (sym x.1))
 explained_of ctx w packets (Payer n) Stop d o x = tt
 explained_of ctx w packets (Payer n) Start d o x = tt
-explained_of ctx w packets (Payer n) (Reprice product price) d o x = tt
+explained_of ctx w packets (Payer n) (Reprice change) d o x = tt
 explained_of ctx w packets (Switch m) (Submit text) d o x = absurd (d m refl)
 explained_of ctx w packets (Switch m) Tick d o x = absurd (d m refl)
 explained_of ctx w packets (Switch m) Stop d o x = absurd (d m refl)
 explained_of ctx w packets (Switch m) Start d o x = absurd (d m refl)
-explained_of ctx w packets (Switch m) (Reprice product price) d o x = absurd (d m refl)
+explained_of ctx w packets (Switch m) (Reprice change) d o x = absurd (d m refl)
 
 made_by_pharmacy : (ctx : Context) (w : World) (n : ℕ) (call : Call) (now next : AnyNode) (sent : List Sent) → node_at w (Pharmacy n) ≡ Some now → node_step ctx now call ≡ Done next sent → OnlyPayers (Pharmacy n) call
 made_by_pharmacy ctx w n call now next sent is steps =
@@ -220,13 +220,13 @@ pharmacy_asks ctx s v n (Up j) next (Take from bytes) sent r at e = hears (ctx.r
 pharmacy_asks ctx s v n (Up j) next Stop sent r at e = subst (AllByRecursion (AsksSwitch ctx n)) (done_same (AtRest (stopped j)) next [] sent e).1 tt
 pharmacy_asks ctx s v n (AtRest j) next Start sent r at e = subst (AllByRecursion (AsksSwitch ctx n)) (done_same (Up (started j)) next [] sent e).1 tt
 pharmacy_asks ctx s v n (Up j) next Start sent r at e = absurd cc
-pharmacy_asks ctx s v n (Up j) next (Reprice product price) sent r at e = absurd cc
+pharmacy_asks ctx s v n (Up j) next (Reprice change) sent r at e = absurd cc
 pharmacy_asks ctx s v n (Up j) next (Adjudicate from bytes advice) sent r at e = absurd cc
 pharmacy_asks ctx s v n (AtRest j) next (Submit text) sent r at e = absurd cc
 pharmacy_asks ctx s v n (AtRest j) next Tick sent r at e = absurd cc
 pharmacy_asks ctx s v n (AtRest j) next (Take from bytes) sent r at e = absurd cc
 pharmacy_asks ctx s v n (AtRest j) next Stop sent r at e = absurd cc
-pharmacy_asks ctx s v n (AtRest j) next (Reprice product price) sent r at e = absurd cc
+pharmacy_asks ctx s v n (AtRest j) next (Reprice change) sent r at e = absurd cc
 pharmacy_asks ctx s v n (AtRest j) next (Adjudicate from bytes advice) sent r at e = absurd cc
 
 -- a node's own packets are among those that it sent
@@ -282,8 +282,8 @@ payer_tracked ctx s w v packets n (Submit text) now next sent r r' is at steps x
 payer_tracked ctx s w v packets n Tick now next sent r r' is at steps x = absurd (pharmacy_no_payer x.0 n (sym x.1))
 payer_tracked ctx s w v packets n Stop now next sent r r' is at steps x = silent_tracked ctx (packets ++ map (packet_from (Payer n)) sent) n sent (payer_silent ctx w n Stop now next sent (λ from bytes e. cc) (λ from bytes advice e. cc) is steps)
 payer_tracked ctx s w v packets n Start now next sent r r' is at steps x = silent_tracked ctx (packets ++ map (packet_from (Payer n)) sent) n sent (payer_silent ctx w n Start now next sent (λ from bytes e. cc) (λ from bytes advice e. cc) is steps)
-payer_tracked ctx s w v packets n (Reprice product price) now next sent r r' is at steps x =
-    silent_tracked ctx (packets ++ map (packet_from (Payer n)) sent) n sent (payer_silent ctx w n (Reprice product price) now next sent (λ from bytes e. cc) (λ from bytes advice e. cc) is steps)
+payer_tracked ctx s w v packets n (Reprice change) now next sent r r' is at steps x =
+    silent_tracked ctx (packets ++ map (packet_from (Payer n)) sent) n sent (payer_silent ctx w n (Reprice change) now next sent (λ from bytes e. cc) (λ from bytes advice e. cc) is steps)
 
 -- ---- what switches send
 
@@ -431,13 +431,13 @@ switch_tracked ctx w packets m (AtRest cap) next Start sent laws all c d = quiet
 switch_tracked ctx w packets m (Up t) next (Submit text) sent laws all c d = absurd cc
 switch_tracked ctx w packets m (Up t) next Tick sent laws all c d = absurd cc
 switch_tracked ctx w packets m (Up t) next Start sent laws all c d = absurd cc
-switch_tracked ctx w packets m (Up t) next (Reprice product price) sent laws all c d = absurd cc
+switch_tracked ctx w packets m (Up t) next (Reprice change) sent laws all c d = absurd cc
 switch_tracked ctx w packets m (Up t) next (Adjudicate from bytes advice) sent laws all c d = absurd cc
 switch_tracked ctx w packets m (AtRest cap) next (Submit text) sent laws all c d = absurd cc
 switch_tracked ctx w packets m (AtRest cap) next Tick sent laws all c d = absurd cc
 switch_tracked ctx w packets m (AtRest cap) next (Take from bytes) sent laws all c d = absurd cc
 switch_tracked ctx w packets m (AtRest cap) next Stop sent laws all c d = absurd cc
-switch_tracked ctx w packets m (AtRest cap) next (Reprice product price) sent laws all c d = absurd cc
+switch_tracked ctx w packets m (AtRest cap) next (Reprice change) sent laws all c d = absurd cc
 switch_tracked ctx w packets m (AtRest cap) next (Adjudicate from bytes advice) sent laws all c d = absurd cc
 
 -- ---- event by event

@@ -43,14 +43,14 @@ IsExplained ctx packets (Pharmacy n) (Submit text) = ⊤
 IsExplained ctx packets (Pharmacy n) Tick = ⊤
 IsExplained ctx packets (Pharmacy n) Stop = ⊤
 IsExplained ctx packets (Pharmacy n) Start = ⊤
-IsExplained ctx packets (Pharmacy n) (Reprice product price) = ⊥
+IsExplained ctx packets (Pharmacy n) (Reprice change) = ⊥
 IsExplained ctx packets (Pharmacy n) (Adjudicate from bytes advice) = ⊥
 IsExplained ctx packets (Payer n) (Take from bytes) = (m : ℕ) × (from ≡ Switch m) × ((k : ℕ) × IsAmong packets (packet (Pharmacy k) (Switch m) bytes))
 IsExplained ctx packets (Payer n) (Submit text) = ⊥
 IsExplained ctx packets (Payer n) Tick = ⊥
 IsExplained ctx packets (Payer n) Stop = ⊤
 IsExplained ctx packets (Payer n) Start = ⊤
-IsExplained ctx packets (Payer n) (Reprice product price) = ⊤
+IsExplained ctx packets (Payer n) (Reprice change) = ⊤
 IsExplained ctx packets (Payer n) (Adjudicate from bytes advice) = (m : ℕ) × (from ≡ Switch m) × ((k : ℕ) × IsAmong packets (packet (Pharmacy k) (Switch m) bytes))
 IsExplained ctx packets (Switch m) call = ⊥
 

@@ -41,7 +41,7 @@ small route = record {
   orders = λ text. Err (NotCovered ∷ []) ∷ [];
   route = λ number key. route;
   price = λ plan claim. None;
-  reprice = λ plan product price. Ok plan;
+  reprice = λ plan change. Ok plan;
   answer = λ h status rulings. letter status;
   read_answer = λ bytes. Some (record { header = small_response; rulings = [] });
   envelope = λ e. kind_number e.kind ∷ e.id.pharmacy ∷ e.id.number ∷ e.payload;

@@ -23,7 +23,7 @@ referred name Tick next = []
 referred name (Take from bytes) next = []
 referred name Stop next = []
 referred name Start next = []
-referred name (Reprice product price) next = []
+referred name (Reprice change) next = []
 referred name (Adjudicate from bytes advice) next = []
 
 -- the references of calls that a node makes, in order

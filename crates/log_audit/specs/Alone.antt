@@ -41,7 +41,7 @@ ticked ticks Tick = min (ticks + 1) (2 ^ 64 - 1)
 ticked ticks (Take from bytes) = ticks
 ticked ticks Stop = ticks
 ticked ticks Start = ticks
-ticked ticks (Reprice product price) = ticks
+ticked ticks (Reprice change) = ticks
 ticked ticks (Adjudicate from bytes advice) = ticks
 
 -- the count of ticks at a submission
@@ -51,7 +51,7 @@ submitted ticks Tick = []
 submitted ticks (Take from bytes) = []
 submitted ticks Stop = []
 submitted ticks Start = []
-submitted ticks (Reprice product price) = []
+submitted ticks (Reprice change) = []
 submitted ticks (Adjudicate from bytes advice) = []
 
 -- how many ticks came in all, from this many on

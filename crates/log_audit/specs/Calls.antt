@@ -23,7 +23,7 @@ call_word Tick = codes "tick"
 call_word (Take from bytes) = codes "packet"
 call_word Stop = codes "stop"
 call_word Start = codes "start"
-call_word (Reprice product price) = codes "price"
+call_word (Reprice change) = codes "price"
 call_word (Adjudicate from bytes advice) = codes "packet"
 
 -- how many submissions a call is
@@ -33,7 +33,7 @@ submissions_in Tick = 0
 submissions_in (Take from bytes) = 0
 submissions_in Stop = 0
 submissions_in Start = 0
-submissions_in (Reprice product price) = 0
+submissions_in (Reprice change) = 0
 submissions_in (Adjudicate from bytes advice) = 0
 
 abbrev pub no_load : Load
@@ -46,7 +46,7 @@ call_load ctx node submissions Tick = no_load
 call_load ctx node submissions (Take from bytes) = load_of (ctx.read_envelope bytes)
 call_load ctx node submissions Stop = no_load
 call_load ctx node submissions Start = no_load
-call_load ctx node submissions (Reprice product price) = no_load
+call_load ctx node submissions (Reprice change) = no_load
 call_load ctx node submissions (Adjudicate from bytes advice) = load_of (ctx.read_envelope bytes)
 
 -- when a call was made; nothing, where the host did not say
@@ -64,7 +64,7 @@ sender_member Tick = nobody
 sender_member (Take from bytes) = node_member (codes "from") from
 sender_member Stop = nobody
 sender_member Start = nobody
-sender_member (Reprice product price) = nobody
+sender_member (Reprice change) = nobody
 sender_member (Adjudicate from bytes advice) = node_member (codes "from") from
 
 -- the row of a record with this load, which stands at this place of a node's log, from 1

@@ -24,7 +24,7 @@ is_submission Tick = false
 is_submission (Take from bytes) = false
 is_submission Stop = false
 is_submission Start = false
-is_submission (Reprice product price) = false
+is_submission (Reprice change) = false
 is_submission (Adjudicate from bytes advice) = false
 
 -- how the call of this number, from 1, is called: no byte where it has no reference. Those before a log have the number 0

@@ -31,7 +31,7 @@ event_change number (Delivery packet) = []
 event_change number (Stopping node) = []
 event_change number (Starting node) = []
 event_change number (Adjudication packet advice) = []
-event_change number (PlanChange payer product price) = record { payer = payer; place = number; product = product; price = price } ∷ []
+event_change number (PlanChange payer change) = record { payer = payer; place = number; product = product; price = price } ∷ []
 
 -- those of events that are numbered from here on
 abbrev pub event_changes : ℕ → List Event → List Change
@@ -46,7 +46,7 @@ call_change payer number (Take from bytes) = []
 call_change payer number Stop = []
 call_change payer number Start = []
 call_change payer number (Adjudicate from bytes advice) = []
-call_change payer number (Reprice product price) = record { payer = payer; place = number; product = product; price = price } ∷ []
+call_change payer number (Reprice change) = record { payer = payer; place = number; product = product; price = price } ∷ []
 
 abbrev pub call_changes : ℕ → ℕ → List Logged → List Change
 call_changes payer number [] = []

@@ -39,7 +39,7 @@ waits ps node Tick = false
 waits ps node (Take from bytes) = not (list_any (sent_before from node bytes) ps)
 waits ps node Stop = false
 waits ps node Start = false
-waits ps node (Reprice product price) = false
+waits ps node (Reprice change) = false
 waits ps node (Adjudicate from bytes advice) = not (list_any (sent_before from node bytes) ps)
 
 -- the next call of a log
@@ -92,7 +92,7 @@ wait_text ctx ps node (Take from bytes) = taken_text ctx ps node from bytes
 wait_text ctx ps node (Adjudicate from bytes advice) = taken_text ctx ps node from bytes
 wait_text ctx ps node Stop = codes "no event makes this call on such a node"
 wait_text ctx ps node Start = codes "no event makes this call on such a node"
-wait_text ctx ps node (Reprice product price) = codes "no event makes this call on such a node"
+wait_text ctx ps node (Reprice change) = codes "no event makes this call on such a node"
 
 -- the line on a call that waits
 unfoldable pub wait_line : Context → List Progress → Node → ℕ → Call → List ℕ

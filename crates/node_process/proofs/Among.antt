@@ -127,7 +127,7 @@ asked_later_too owners t all node (Submit text) c = c
 asked_later_too owners t all node Tick c = c
 asked_later_too owners t all node Stop c = c
 asked_later_too owners t all node Start c = c
-asked_later_too owners t all node (Reprice product price) c = c
+asked_later_too owners t all node (Reprice change) c = c
 asked_later_too owners t all node (Adjudicate from bytes advice) c = sent_later owners t all (record { from = from; to = node; bytes = bytes }) c
 
 pub own_turn : (t : Turn) (all : List Turn) (node : Node) → same_node t.node node ≡ true → own node (t ∷ all) ≡ t.happens ∷ own node all

@@ -91,7 +91,7 @@ can_ask n owners all node (Submit text) keeps own w = own
 can_ask n owners all node Tick keeps own w = own
 can_ask n owners all node Stop keeps own w = tt
 can_ask n owners all node Start keeps own w = tt
-can_ask n owners all node (Reprice product price) keeps own w = own
+can_ask n owners all node (Reprice change) keeps own w = own
 can_ask n owners all node (Adjudicate from bytes advice) keeps own w = keeps w.later w.earlier w.is from w.calls (record { from = from; to = node; bytes = bytes }) w.has w.sent
 
 can_ask_all : (n : Network) (owners : Owners) (all : List Turn) (node : Node) (lines : List (List ℕ)) (steps : List Step) → Kept n owners all → Tied owners all node lines → AreAskedIn lines steps → CanAskAll n node (own_steps node steps)

@@ -134,7 +134,7 @@ known_spoken node s Tick number = no_word node [] s.out
 known_spoken node s (Take from bytes) number = no_word node [] s.out
 known_spoken node s Stop number = no_word node [] s.out
 known_spoken node s Start number = no_word node [] s.out
-known_spoken node s (Reprice product price) number = no_word node [] s.out
+known_spoken node s (Reprice change) number = no_word node [] s.out
 known_spoken node s (Adjudicate from bytes advice) number = no_word node [] s.out
 
 once_spoken : (node : Node) (s : Serving) (stamp : Stamp) (call : Call) (o : Option ℕ) → IsSpoken node (bare_calls (kept_once s stamp call o)) s.out (making_once s stamp call o).out

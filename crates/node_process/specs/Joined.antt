@@ -55,7 +55,7 @@ IsOfPacket owners all node (Submit text) = ⊤
 IsOfPacket owners all node Tick = ⊤
 IsOfPacket owners all node Stop = ⊤
 IsOfPacket owners all node Start = ⊤
-IsOfPacket owners all node (Reprice product price) = ⊤
+IsOfPacket owners all node (Reprice change) = ⊤
 IsOfPacket owners all node (Adjudicate from bytes advice) = WasSent owners all (record { from = from; to = node; bytes = bytes })
 
 -- of each of these lines that asks for a call

@@ -25,7 +25,7 @@ IsReadable Tick outcome = Unit {0}
 IsReadable (Take from bytes) outcome = outcome ≢ Refused Unreadable
 IsReadable Stop outcome = Unit {0}
 IsReadable Start outcome = Unit {0}
-IsReadable (Reprice product price) outcome = Unit {0}
+IsReadable (Reprice change) outcome = Unit {0}
 IsReadable (Adjudicate from bytes advice) outcome = Unit {0}
 
 -- a pharmacy hears an envelope

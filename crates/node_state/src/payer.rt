@@ -5,6 +5,7 @@ ghost use Rattle.std.specs.Option.{option_copied};
 ghost use Rattle.bin_routes.specs.Table.{RouteMaps};
 ghost use Rattle.claim_model.specs.Bytes.{bytes_with};
 ghost use Rattle.claim_model.specs.Book.{unadvised};
+ghost use Rattle.claim_model.specs.Words.{SetPrice, SetTerms};
 ghost use Rattle.claim_model.specs.Node.{Up, Reprice, Adjudicate, payer_step, payer_takes, advice_in};
 ghost use Rattle.claim_model.specs.Held.{book_in};
 ghost use Rattle.world_setup.specs.Seen.{node_seen};
@@ -72,6 +73,7 @@ impl Kind for Book {
     ) -> Result<Vec<Sent>, Fault> {
         match call {
             Call::Plan { product, price } => change_plan(alloc, self, product.as_slice(), price),
+            Call::Terms { fee, copay } => change_terms(alloc, self, fee, copay),
             Call::Adjudicate {
                 from,
                 bytes,
@@ -92,7 +94,9 @@ impl Kind for Book {
 
     fn down(call: Call<&Octets>) -> Fault {
         match call {
-            Call::Plan { .. } | Call::Adjudicate { .. } => Fault::Refused(Refusal::Down),
+            Call::Plan { .. } | Call::Terms { .. } | Call::Adjudicate { .. } => {
+                Fault::Refused(Refusal::Down)
+            }
             _ => Fault::Refused(Refusal::NoSuchNode),
         }
     }
@@ -223,12 +227,24 @@ fn change_plan(
     price: Option<u32>,
 ) -> Result<Vec<Sent>, Fault>
     ensures ok { (routes : RouteMaps)
-        → PayerMakes routes (Up book.old) (Reprice product.now price) (Up book.new) result }
-    ensures fault { (routes : RouteMaps) → PayerRefuses routes (Up book.old) (Reprice product.now price) result }
+        → PayerMakes routes (Up book.old) (Reprice (SetPrice product.now price)) (Up book.new) result }
+    ensures fault { (routes : RouteMaps) → PayerRefuses routes (Up book.old) (Reprice (SetPrice product.now price)) result }
     ensures few { IfOk result (λ sent. length sent.items ≤ 1) }
     ensures err { OnErr result (book.new ≡ book.old) }
 {
     book.change_plan(product, price)?;
+    Ok(Vec::new(alloc))
+}
+
+/// Sets the fee and the copay, in cents. Nothing is sent.
+fn change_terms(alloc: Global, book: &mut Book, fee: u32, copay: u32) -> Result<Vec<Sent>, Fault>
+    ensures ok { (routes : RouteMaps)
+        → PayerMakes routes (Up book.old) (Reprice (SetTerms fee copay)) (Up book.new) result }
+    ensures fault { (routes : RouteMaps) → PayerRefuses routes (Up book.old) (Reprice (SetTerms fee copay)) result }
+    ensures few { IfOk result (λ sent. length sent.items ≤ 1) }
+    ensures err { OnErr result (book.new ≡ book.old) }
+{
+    book.change_terms(fee, copay)?;
     Ok(Vec::new(alloc))
 }
 

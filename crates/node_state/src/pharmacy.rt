@@ -71,7 +71,9 @@ impl Kind for Pharmacy {
         match call {
             Call::Submit(text) => submit(alloc, self, text.as_slice()),
             Call::Tick => tick(self),
-            Call::Plan { .. } | Call::Adjudicate { .. } => Err(Fault::Refused(Refusal::NoSuchNode)),
+            Call::Plan { .. } | Call::Terms { .. } | Call::Adjudicate { .. } => Err(Fault::Refused(
+                Refusal::NoSuchNode,
+            )),
             Call::Take { .. } | Call::Stop | Call::Start => unreachable!(),
         }
     }
@@ -86,7 +88,9 @@ impl Kind for Pharmacy {
 
     fn down(call: Call<&Octets>) -> Fault {
         match call {
-            Call::Plan { .. } | Call::Adjudicate { .. } => Fault::Refused(Refusal::NoSuchNode),
+            Call::Plan { .. } | Call::Terms { .. } | Call::Adjudicate { .. } => Fault::Refused(
+                Refusal::NoSuchNode,
+            ),
             _ => Fault::Refused(Refusal::Down),
         }
     }

@@ -75,9 +75,11 @@ impl Kind for Switch {
         call: Call<&Octets>,
     ) -> Result<Vec<Sent>, Fault> {
         match call {
-            Call::Submit(_) | Call::Tick | Call::Plan { .. } | Call::Adjudicate { .. } => {
-                Err(Fault::Refused(Refusal::NoSuchNode))
-            }
+            Call::Submit(_)
+            | Call::Tick
+            | Call::Plan { .. }
+            | Call::Terms { .. }
+            | Call::Adjudicate { .. } => { Err(Fault::Refused(Refusal::NoSuchNode)) }
             Call::Take { .. } | Call::Stop | Call::Start => unreachable!(),
         }
     }
@@ -94,9 +96,11 @@ impl Kind for Switch {
 
     fn down(call: Call<&Octets>) -> Fault {
         match call {
-            Call::Submit(_) | Call::Tick | Call::Plan { .. } | Call::Adjudicate { .. } => {
-                Fault::Refused(Refusal::NoSuchNode)
-            }
+            Call::Submit(_)
+            | Call::Tick
+            | Call::Plan { .. }
+            | Call::Terms { .. }
+            | Call::Adjudicate { .. } => { Fault::Refused(Refusal::NoSuchNode) }
             Call::Take { .. } | Call::Stop | Call::Start => unreachable!(),
         }
     }

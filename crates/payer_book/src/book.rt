@@ -18,8 +18,8 @@ pub(crate) mod texts;
 ghost use Rattle.std.specs.Prelude.{◌≡◌, ◌<◌, ◌≤◌, [], map, length, slice_get, Some, Ok, OnOk, OnErr, IfErr};
 ghost use Rattle.std.specs.Option.{option_copied, option_and_then};
 ghost use Rattle.bin_routes.specs.Table.{RouteMaps};
-ghost use Rattle.plan_rules.specs.Terms.{RefusedFor};
-ghost use Rattle.claim_model.specs.Bytes.{bytes_with, reprice};
+ghost use Rattle.plan_rules.specs.Terms.{RefusedFor, SetPrice, SetTerms, changed};
+ghost use Rattle.claim_model.specs.Bytes.{bytes_with};
 ghost use Rattle.claim_model.specs.Book.{row_of};
 ghost use Rattle.claim_model.specs.Held.{row_answer};
 ghost use Rattle.payer_book.specs.Views.{payment_in, view_of};
@@ -171,9 +171,9 @@ impl Book {
     pub fn change_plan(&mut self, product: &[u8], price: Option<u32>) -> Result<(), PlanFault>
         ensures rest { (self.new.payer ≡ self.old.payer) × (self.new.settings ≡ self.old.settings)
             × (self.new.rows ≡ self.old.rows) }
-        ensures ok { OnOk result (reprice self.old.plan product.now price ≡ Ok self.new.plan) }
+        ensures ok { OnOk result (changed self.old.plan (SetPrice product.now price) ≡ Ok self.new.plan) }
         ensures err { OnErr result (self.new ≡ self.old) }
-        ensures cause { IfErr result (λ fault. RefusedFor fault (reprice self.old.plan product.now price)) }
+        ensures cause { IfErr result (λ fault. RefusedFor fault (changed self.old.plan (SetPrice product.now price))) }
     {
         match price {
             Some(price) => self.plan.set(product, price),
@@ -182,6 +182,20 @@ impl Book {
                 Ok(())
             }
         }
+    }
+
+    /// Sets the fee and the copay, in cents. Decided requests keep their answers.
+    ///
+    /// # Errors
+    /// Those of `Plan::set_terms`.
+    pub fn change_terms(&mut self, fee: u32, copay: u32) -> Result<(), PlanFault>
+        ensures rest { (self.new.payer ≡ self.old.payer) × (self.new.settings ≡ self.old.settings)
+            × (self.new.rows ≡ self.old.rows) }
+        ensures ok { OnOk result (changed self.old.plan (SetTerms fee copay) ≡ Ok self.new.plan) }
+        ensures err { OnErr result (self.new ≡ self.old) }
+        ensures cause { IfErr result (λ fault. RefusedFor fault (changed self.old.plan (SetTerms fee copay))) }
+    {
+        self.plan.set_terms(fee, copay)
     }
 
     /// The bytes of the answer to the request of that id.

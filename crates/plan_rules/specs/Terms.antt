@@ -1,5 +1,5 @@
 -- The terms of a plan and how they change.
-use Rattle.std.specs.Prelude.{◌≡◌, ℕ, ℤ, pos, negsuc, ◌≤◌, List, [], length, ◌&&◌, nat_lt, nat_le, is_none, All, IsTrue, Result, Ok, Err, if◌then◌else◌}
+use Rattle.std.specs.Prelude.{◌≡◌, ℕ, ℤ, pos, negsuc, ◌≤◌, List, [], length, ◌&&◌, nat_lt, nat_le, is_none, Option, Some, None, All, IsTrue, Result, Ok, Err, if◌then◌else◌}
 use Rattle.claim_profile.specs.Money.{largest as largest_amount}
 use Rattle.plan_rules.specs.declared.fault.PlanFault.{PlanFault}
 use Rattle.plan_rules.specs.declared.fault.PlanFault.TheVariants.{OutOfMemory, PriceTooLarge, BadProduct, PlanFull, NegativeAmount}
@@ -53,6 +53,10 @@ repriced terms product price =
     if nat_lt largest price then Err PriceTooLarge else
     if is_product product then with_prices terms (stored terms.prices product price) else Err BadProduct
 
+-- the terms with another fee and another copay, where a plan may have both
+abbrev pub retermed : Terms → ℕ → ℕ → Result Terms PlanFault
+retermed terms fee copay = if nat_le fee largest && nat_le copay largest then Ok (record terms { fee = fee; copay = copay }) else Err PriceTooLarge
+
 -- a change is refused for this cause; nothing is known of it where memory ran out
 abbrev pub RefusedFor : {X : Type 0} → PlanFault → Result X PlanFault → Type 0
 RefusedFor OutOfMemory changed = Unit {0}
@@ -72,3 +76,14 @@ IsNoRoom NegativeAmount count = ⊥
 -- the terms without a product
 abbrev pub cleared : Terms → List ℕ → Terms
 cleared terms product = record terms { prices = without_product terms.prices product }
+
+-- a change of a plan: a product has this price or none any more; or the fee and the copay are these
+pub data Change : Type 0 where
+  SetPrice : (product : List ℕ) → (price : Option ℕ) → Change
+  SetTerms : (fee copay : ℕ) → Change
+
+-- the terms after a change, or the first thing that is wrong with it
+abbrev pub changed : Terms → Change → Result Terms PlanFault
+changed terms (SetPrice product (Some price)) = repriced terms product price
+changed terms (SetPrice product None) = Ok (cleared terms product)
+changed terms (SetTerms fee copay) = retermed terms fee copay

@@ -12,8 +12,8 @@ pub enum PlanFault {
     /// There is no memory for one more product.
     #[error("out of memory")]
     OutOfMemory,
-    /// The price is over 99,999,999 ten-thousandths of a dollar a unit.
-    #[error("a price is at most 99,999,999 ten-thousandths of a dollar")]
+    /// The price is over 99,999,999 ten-thousandths of a dollar a unit, or the fee or the copay over 99,999,999 cents.
+    #[error("a price is at most 99,999,999 ten-thousandths of a dollar, a fee and a copay as many cents")]
     PriceTooLarge,
     /// The product does not have 1 to 19 bytes, holds a separator, or ends in a space.
     #[error("a product has 1 to 19 bytes, no separator and no space at its end")]

@@ -2,7 +2,7 @@
 
 ghost use Rattle.std.specs.Prelude.{◌≡◌, ◌≢◌, ◌≤◌, length, slice_get, IfErr, IfOk, IsSome, OnOk, OnErr, Ok, Err};
 ghost use Rattle.std.specs.Option.{option_map};
-ghost use Rattle.plan_rules.specs.Terms.{IsPlan, RefusedFor, opening, repriced, cleared, largest};
+ghost use Rattle.plan_rules.specs.Terms.{IsPlan, RefusedFor, opening, repriced, retermed, cleared, largest};
 ghost use Rattle.plan_rules.specs.Prices.{price_of};
 ghost use Rattle.plan_rules.specs.Pricing.{paid};
 
@@ -74,6 +74,22 @@ impl Plan {
         ensures { self.new ≡ cleared self.old product.now }
     {
         remove_price(&mut self.prices, product);
+    }
+
+    /// Sets the fee and the copay, in cents.
+    ///
+    /// One that is over 99,999,999 is PriceTooLarge, and then nothing changes. It takes no memory.
+    pub fn set_terms(&mut self, fee: u32, copay: u32) -> Result<(), PlanFault>
+        ensures ok { OnOk result (retermed self.old fee copay ≡ Ok self.new) }
+        ensures err { OnErr result (self.new ≡ self.old) }
+        ensures cause { IfErr result (λ fault. (fault ≡ PlanFault.PriceTooLarge) × (retermed self.old fee copay ≡ Err fault)) }
+    {
+        if fee > LARGEST || copay > LARGEST {
+            return Err(PlanFault::PriceTooLarge);
+        }
+        self.fee = fee;
+        self.copay = copay;
+        Ok(())
     }
 
     /// What the plan pays for a claim; None where the claim's product is not on it.

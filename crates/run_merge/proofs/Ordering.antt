@@ -130,7 +130,7 @@ stays packets many (Ticking n) a all h = (Ticking n, h)
 stays packets many (Delivery k) a all h = stays_delivery k packets many a (numbered packets k) all refl h
 stays packets many (Stopping node) a all h = (Stopping node, h)
 stays packets many (Starting node) a all h = (Starting node, h)
-stays packets many (PlanChange n product price) a all h = (PlanChange n product price, h)
+stays packets many (PlanChange n change) a all h = (PlanChange n change, h)
 stays packets many (Adjudication k advice) a all h = stays_adjudication k advice packets many a (numbered packets k) all refl h
 
 -- a stuck order is finished, where any order is

@@ -43,7 +43,7 @@ delivered_by (Submission n text) o = []
 delivered_by (Ticking n) o = []
 delivered_by (Stopping node) o = []
 delivered_by (Starting node) o = []
-delivered_by (PlanChange n product price) o = []
+delivered_by (PlanChange n change) o = []
 delivered_by (Adjudication packet advice) (Done next sent) = packet ∷ []
 delivered_by (Adjudication packet advice) (Refused why) = []
 

@@ -23,7 +23,7 @@ made_mark number (Ticking n) = Ticked number n
 made_mark number (Delivery k) = Arrived number k
 made_mark number (Stopping node) = Stopped number node
 made_mark number (Starting node) = Started number node
-made_mark number (PlanChange n product price) = Priced number n
+made_mark number (PlanChange n change) = Priced number n
 made_mark number (Adjudication k advice) = Arrived number k
 
 -- the marks of packets that an event sent, numbered from one on

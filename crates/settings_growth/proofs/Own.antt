@@ -51,7 +51,7 @@ own_asked ctx s w (Ticking n) a laws x e = subst (λ (b : Asked). IsOwnCall ctx 
 own_asked ctx s w (Delivery k) a laws x e = delivers ctx s w k (numbered w.packets k) a laws x refl e
 own_asked ctx s w (Stopping node) a laws x e = subst (λ (b : Asked). IsOwnCall ctx s b.call) (same_some _ a e) tt
 own_asked ctx s w (Starting node) a laws x e = subst (λ (b : Asked). IsOwnCall ctx s b.call) (same_some _ a e) tt
-own_asked ctx s w (PlanChange n product price) a laws x e = subst (λ (b : Asked). IsOwnCall ctx s b.call) (same_some _ a e) tt
+own_asked ctx s w (PlanChange n change) a laws x e = subst (λ (b : Asked). IsOwnCall ctx s b.call) (same_some _ a e) tt
 own_asked ctx s w (Adjudication k advice) a laws x e = advises ctx s w k advice (numbered w.packets k) a laws x refl e
 
 one_logged : (ctx : Context) (s : WorldSettings) (b : Bool) (l : Logged) → IsOwnCall ctx s l.call → HasOwnCalls ctx s (cond b (l ∷ []) [])

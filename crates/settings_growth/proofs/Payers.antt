@@ -131,7 +131,7 @@ step_up ctx route b cap Tick next sent wide le e = absurd cc
 step_up ctx route b cap (Take from bytes) next sent wide le e = takes ctx route b unadvised cap from (ctx.read_envelope bytes) next sent wide le e
 step_up ctx route b cap Stop next sent wide le e = ap (leading (book_with_cap cap)) e
 step_up ctx route b cap Start next sent wide le e = absurd cc
-step_up ctx route b cap (Reprice product price) next sent wide le e = reprices b cap (ctx.reprice b.plan product price) next sent e
+step_up ctx route b cap (Reprice change) next sent wide le e = reprices b cap (ctx.reprice b.plan change) next sent e
 step_up ctx route b cap (Adjudicate from bytes advice) next sent wide le e = advised_over ctx route b cap from bytes advice b.settings.asks next sent wide le e
 
 step_at_rest : (b : Book) (cap : ℕ) (call : Call) (next : Power Book Book) (sent : List Sent) → payer_at_rest b call ≡ Done next sent → payer_at_rest (capped cap b) call ≡ Done (book_with_cap cap next) sent
@@ -140,7 +140,7 @@ step_at_rest b cap Tick next sent e = absurd cc
 step_at_rest b cap (Take from bytes) next sent e = absurd cc
 step_at_rest b cap Stop next sent e = absurd cc
 step_at_rest b cap Start next sent e = ap (leading (book_with_cap cap)) e
-step_at_rest b cap (Reprice product price) next sent e = absurd cc
+step_at_rest b cap (Reprice change) next sent e = absurd cc
 step_at_rest b cap (Adjudicate from bytes advice) next sent e = absurd cc
 
 abbrev pub book_cap : Power Book Book → ℕ
@@ -202,12 +202,12 @@ book_cap_stays ctx (Up b) Tick next sent e = absurd cc
 book_cap_stays ctx (Up b) (Take from bytes) next sent e = takes_capped ctx b unadvised from (ctx.read_envelope bytes) next sent e
 book_cap_stays ctx (Up b) Stop next sent e = capped_by _ next _ sent e
 book_cap_stays ctx (Up b) Start next sent e = absurd cc
-book_cap_stays ctx (Up b) (Reprice product price) next sent e = reprice_capped b (ctx.reprice b.plan product price) next sent e
+book_cap_stays ctx (Up b) (Reprice change) next sent e = reprice_capped b (ctx.reprice b.plan change) next sent e
 book_cap_stays ctx (Up b) (Adjudicate from bytes advice) next sent e = advised_capped ctx b from bytes advice b.settings.asks next sent e
 book_cap_stays ctx (AtRest b) (Submit text) next sent e = absurd cc
 book_cap_stays ctx (AtRest b) Tick next sent e = absurd cc
 book_cap_stays ctx (AtRest b) (Take from bytes) next sent e = absurd cc
 book_cap_stays ctx (AtRest b) Stop next sent e = absurd cc
 book_cap_stays ctx (AtRest b) Start next sent e = capped_by _ next _ sent e
-book_cap_stays ctx (AtRest b) (Reprice product price) next sent e = absurd cc
+book_cap_stays ctx (AtRest b) (Reprice change) next sent e = absurd cc
 book_cap_stays ctx (AtRest b) (Adjudicate from bytes advice) next sent e = absurd cc

@@ -88,7 +88,7 @@ step_up ctx route j cap Tick next sent le e =
 step_up ctx route j cap (Take from bytes) next sent le e = takes ctx j cap (ctx.read_envelope bytes) next sent e
 step_up ctx route j cap Stop next sent le e = ap (leading (journal_with_cap cap)) e
 step_up ctx route j cap Start next sent le e = absurd cc
-step_up ctx route j cap (Reprice product price) next sent le e = absurd cc
+step_up ctx route j cap (Reprice change) next sent le e = absurd cc
 step_up ctx route j cap (Adjudicate from bytes advice) next sent le e = absurd cc
 
 step_at_rest : (j : JournalAtRest) (cap : ℕ) (call : Call) (next : Power Journal JournalAtRest) (sent : List Sent)
@@ -99,7 +99,7 @@ step_at_rest j cap Tick next sent e = absurd cc
 step_at_rest j cap (Take from bytes) next sent e = absurd cc
 step_at_rest j cap Stop next sent e = absurd cc
 step_at_rest j cap Start next sent e = ap (leading (journal_with_cap cap)) e
-step_at_rest j cap (Reprice product price) next sent e = absurd cc
+step_at_rest j cap (Reprice change) next sent e = absurd cc
 step_at_rest j cap (Adjudicate from bytes advice) next sent e = absurd cc
 
 abbrev pub journal_cap : Power Journal JournalAtRest → ℕ
@@ -145,12 +145,12 @@ journal_cap_stays ctx (Up j) Tick next sent e = capped_by _ next _ sent e
 journal_cap_stays ctx (Up j) (Take from bytes) next sent e = takes_capped ctx j (ctx.read_envelope bytes) next sent e
 journal_cap_stays ctx (Up j) Stop next sent e = capped_by _ next _ sent e
 journal_cap_stays ctx (Up j) Start next sent e = absurd cc
-journal_cap_stays ctx (Up j) (Reprice product price) next sent e = absurd cc
+journal_cap_stays ctx (Up j) (Reprice change) next sent e = absurd cc
 journal_cap_stays ctx (Up j) (Adjudicate from bytes advice) next sent e = absurd cc
 journal_cap_stays ctx (AtRest j) (Submit text) next sent e = absurd cc
 journal_cap_stays ctx (AtRest j) Tick next sent e = absurd cc
 journal_cap_stays ctx (AtRest j) (Take from bytes) next sent e = absurd cc
 journal_cap_stays ctx (AtRest j) Stop next sent e = absurd cc
 journal_cap_stays ctx (AtRest j) Start next sent e = capped_by _ next _ sent e
-journal_cap_stays ctx (AtRest j) (Reprice product price) next sent e = absurd cc
+journal_cap_stays ctx (AtRest j) (Reprice change) next sent e = absurd cc
 journal_cap_stays ctx (AtRest j) (Adjudicate from bytes advice) next sent e = absurd cc

@@ -125,7 +125,7 @@ own_lasts ctx wider s (Submit text) w own = tt
 own_lasts ctx wider s Tick w own = tt
 own_lasts ctx wider s Stop w own = tt
 own_lasts ctx wider s Start w own = tt
-own_lasts ctx wider s (Reprice product price) w own = tt
+own_lasts ctx wider s (Reprice change) w own = tt
 own_lasts ctx wider s (Adjudicate from bytes advice) w own = λ e h payer opened is reads. w.routes e.id.number (route_key h) payer (own e h opened is reads)
 
 own_last : (ctx wider : Context) (s : WorldSettings) (log : List Logged) → WidensFor s ctx wider → HasOwnCalls ctx s log → RoutesLast ctx wider log

@@ -125,13 +125,13 @@ stays_routed ctx (AtRest cap) Start next sent all e = let same : Up (record { ca
 stays_routed ctx (Up t) (Submit text) next sent all e = absurd cc
 stays_routed ctx (Up t) Tick next sent all e = absurd cc
 stays_routed ctx (Up t) Start next sent all e = absurd cc
-stays_routed ctx (Up t) (Reprice product price) next sent all e = absurd cc
+stays_routed ctx (Up t) (Reprice change) next sent all e = absurd cc
 stays_routed ctx (Up t) (Adjudicate from bytes advice) next sent all e = absurd cc
 stays_routed ctx (AtRest cap) (Submit text) next sent all e = absurd cc
 stays_routed ctx (AtRest cap) Tick next sent all e = absurd cc
 stays_routed ctx (AtRest cap) (Take from bytes) next sent all e = absurd cc
 stays_routed ctx (AtRest cap) Stop next sent all e = absurd cc
-stays_routed ctx (AtRest cap) (Reprice product price) next sent all e = absurd cc
+stays_routed ctx (AtRest cap) (Reprice change) next sent all e = absurd cc
 stays_routed ctx (AtRest cap) (Adjudicate from bytes advice) next sent all e = absurd cc
 
 -- ---- a rejected request that has a route now is forwarded now
@@ -203,7 +203,7 @@ one_stays ctx route node (Submit text) next after sent all a b = tt
 one_stays ctx route node Tick next after sent all a b = tt
 one_stays ctx route node Stop next after sent all a b = tt
 one_stays ctx route node Start next after sent all a b = tt
-one_stays ctx route node (Reprice product price) next after sent all a b = tt
+one_stays ctx route node (Reprice change) next after sent all a b = tt
 one_stays ctx route node (Adjudicate from bytes advice) next after sent all a b = tt
 
 -- ---- a whole log

@@ -21,7 +21,7 @@ lasts ctx route (Submit text) wide = tt
 lasts ctx route Tick wide = tt
 lasts ctx route Stop wide = tt
 lasts ctx route Start wide = tt
-lasts ctx route (Reprice product price) wide = tt
+lasts ctx route (Reprice change) wide = tt
 lasts ctx route (Adjudicate from bytes advice) wide = λ e h payer opened is reads. wide e.id.number (route_key h) payer
 
 pub same_payer : (ctx : Context) (route : ℕ → RouteKey → Option ℕ) (e : Envelope) (h : RequestHeader) (o : Option ℕ) → ((payer : ℕ) → payer_for ctx e.id h ≡ Some payer → route e.id.number (route_key h) ≡ Some payer) → (payer_for ctx e.id h ≡ None → route e.id.number (route_key h) ≡ None) → payer_for ctx e.id h ≡ o → route e.id.number (route_key h) ≡ o
@@ -69,5 +69,5 @@ switch_over ctx route (Up t) Tick wide stays = refl
 switch_over ctx route (Up t) (Take from bytes) wide stays = takes ctx route t (ctx.read_envelope bytes) wide stays
 switch_over ctx route (Up t) Stop wide stays = refl
 switch_over ctx route (Up t) Start wide stays = refl
-switch_over ctx route (Up t) (Reprice product price) wide stays = refl
+switch_over ctx route (Up t) (Reprice change) wide stays = refl
 switch_over ctx route (Up t) (Adjudicate from bytes advice) wide stays = refl

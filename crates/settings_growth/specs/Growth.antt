@@ -98,7 +98,7 @@ RouteLasts ctx wider (Submit text) = ⊤
 RouteLasts ctx wider Tick = ⊤
 RouteLasts ctx wider Stop = ⊤
 RouteLasts ctx wider Start = ⊤
-RouteLasts ctx wider (Reprice product price) = ⊤
+RouteLasts ctx wider (Reprice change) = ⊤
 RouteLasts ctx wider (Adjudicate from bytes advice) = PayerLasts ctx wider bytes
 
 -- so has each request that a node took
@@ -116,7 +116,7 @@ IsOwnCall ctx s (Submit text) = ⊤
 IsOwnCall ctx s Tick = ⊤
 IsOwnCall ctx s Stop = ⊤
 IsOwnCall ctx s Start = ⊤
-IsOwnCall ctx s (Reprice product price) = ⊤
+IsOwnCall ctx s (Reprice change) = ⊤
 IsOwnCall ctx s (Adjudicate from bytes advice) = IsOwnPacket ctx s bytes
 
 -- so is each request that a node took
@@ -134,7 +134,7 @@ RejectionStays ctx wider (Submit text) = ⊤
 RejectionStays ctx wider Tick = ⊤
 RejectionStays ctx wider Stop = ⊤
 RejectionStays ctx wider Start = ⊤
-RejectionStays ctx wider (Reprice product price) = ⊤
+RejectionStays ctx wider (Reprice change) = ⊤
 RejectionStays ctx wider (Adjudicate from bytes advice) = ⊤
 
 -- what a switch has rejected for want of a route has none now. Of other nodes nothing is asked

@@ -56,5 +56,5 @@ called_readable step nodes n k node Tick e there h = tt
 called_readable step nodes n k node (Take from bytes) e there h = λ unreadable. h (called_refused step nodes n k node (Some Unreadable) e there unreadable)
 called_readable step nodes n k node Stop e there h = tt
 called_readable step nodes n k node Start e there h = tt
-called_readable step nodes n k node (Reprice product price) e there h = tt
+called_readable step nodes n k node (Reprice change) e there h = tt
 called_readable step nodes n k node (Adjudicate from bytes advice) e there h = tt

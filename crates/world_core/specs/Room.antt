@@ -29,7 +29,7 @@ room_asked nodes node Tick = room_ticking nodes node
 room_asked nodes node (Take from bytes) = 1
 room_asked nodes node Stop = 1
 room_asked nodes node Start = 1
-room_asked nodes node (Reprice product price) = 1
+room_asked nodes node (Reprice change) = 1
 room_asked nodes node (Adjudicate from bytes advice) = 1
 
 -- in an event
@@ -39,5 +39,5 @@ room_for nodes (Ticking n) = room_due nodes.pharmacies n
 room_for nodes (Delivery k) = 1
 room_for nodes (Stopping node) = 1
 room_for nodes (Starting node) = 1
-room_for nodes (PlanChange n product price) = 1
+room_for nodes (PlanChange n change) = 1
 room_for nodes (Adjudication k advice) = 1

@@ -25,12 +25,19 @@ pub enum Call<O = Octets> {
     Stop,
     /// A node starts again.
     Start,
-    /// A payer changes its plan.
+    /// A payer changes the price of a product in its plan.
     Plan {
         /// The product.
         product: O,
         /// Its price in ten-thousandths of a dollar a unit, or `None` to take it off the plan.
         price: Option<u32>,
+    },
+    /// A payer changes the terms of its plan.
+    Terms {
+        /// The most that it pays as a dispensing fee, in cents.
+        fee: u32,
+        /// What a patient pays, in cents.
+        copay: u32,
     },
     /// A payer that asks takes a packet with an advice.
     Adjudicate {
@@ -57,6 +64,10 @@ impl Call {
             Call::Plan { product, price } => Call::Plan {
                 product,
                 price: *price,
+            },
+            Call::Terms { fee, copay } => Call::Terms {
+                fee: *fee,
+                copay: *copay,
             },
             Call::Adjudicate {
                 from,

@@ -28,7 +28,7 @@ pub enum Event {
     Stop(Node),
     /// A node starts again.
     Start(Node),
-    /// A payer changes its plan.
+    /// A payer changes the price of a product in its plan.
     Plan {
         /// The payer's number.
         payer: u16,
@@ -36,6 +36,15 @@ pub enum Event {
         product: Octets,
         /// Its price in ten-thousandths of a dollar a unit, or `None` to take it off the plan.
         price: Option<u32>,
+    },
+    /// A payer changes the terms of its plan.
+    Terms {
+        /// The payer's number.
+        payer: u16,
+        /// The most that it pays as a dispensing fee, in cents.
+        fee: u32,
+        /// What a patient pays, in cents.
+        copay: u32,
     },
     /// The packet of this number, from 1, reaches its addressee, a payer that asks, with an advice.
     Adjudicate {
