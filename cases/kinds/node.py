@@ -1,5 +1,5 @@
-"""One node as a process, step by step: a pharmacy, a payer's book over many prescriptions, a payer that asks, and a switch's table beside a
-plain list."""
+"""One node as a process, step by step: a pharmacy, a payer's book over many prescriptions, a payer that asks, one whose terms change, and a
+switch's table beside a plain list."""
 import json
 from collections.abc import Callable
 
@@ -197,7 +197,7 @@ class Book(Steps):
 
 
 class Asking(Steps):
-    """The book of payer 1, which asks its own system or does not."""
+    """The book of payer 1, which asks its own system or does not; `node` has another node in its place."""
 
     def __init__(self):
         super().__init__()
@@ -207,6 +207,9 @@ class Asking(Steps):
         """What a row comes to."""
         if word == "payer":
             self.open("pr1", book=10, asks={b"asks": 'asks = "claims"\n', b"plans": ""}[argument])
+            return "ok"
+        if word == "node":
+            self.open(argument.decode())
             return "ok"
         if word == "advice":
             self.advice = argument
@@ -327,6 +330,7 @@ SUBJECTS: dict[str, Callable[[], Steps]] = {
     "journal": Journal,
     "prescriptions": Book,
     "advised": Asking,
+    "terms": Asking,
     "switch_table": Table,
 }
 

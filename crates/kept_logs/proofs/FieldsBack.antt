@@ -5,10 +5,11 @@ use Rattle.std.proofs.lemmas.List.{take_at as take_front, drop_at}
 use Rattle.std.specs.List.{AllByRecursion}
 use Rattle.std.specs.Int.{w16, w32, w64, to_be_bytes}
 use Rattle.claim_model.specs.Node.{Node, Pharmacy, Switch, Payer, Sent, Call, Submit, Tick, Take, Stop, Start, Reprice, Adjudicate}
+use Rattle.claim_model.specs.Words.{SetPrice, SetTerms}
 use Rattle.claim_model.specs.Logs.{Logged}
 use Rattle.kept_records.proofs.FieldsBack.{u8_at-put, u16_at-put, u32_at-put, u64_at-put}
 use Rattle.kept_logs.specs.Fields.{bytes_at, text_of, text_at, node_text, node_at}
-use Rattle.kept_logs.specs.Calls.{call_text, call_at, submit_at, take_at, adjudicate_at, unplan_at, plan_at}
+use Rattle.kept_logs.specs.Calls.{call_text, call_at, submit_at, take_at, adjudicate_at, unplan_at, plan_at, terms_at}
 use Rattle.kept_logs.specs.Records.{sent_text, sent_at, sents_text, sents_in, logged_text, logged_in}
 use Rattle.kept_logs.specs.Fits.{FitsNode, FitsCall, FitsSent, FitsLogged}
 
@@ -32,16 +33,18 @@ node_at-put (Switch n) rest small = rw (u8_at-put 1 (to_be_bytes w16 n ++ rest),
 node_at-put (Payer n) rest small = rw (u8_at-put 2 (to_be_bytes w16 n ++ rest), u16_at-put n rest small) refl
 
 pub call_at-put : (call : Call) (rest : List ℕ) → FitsCall call → call_at (call_text call ++ rest) ≡ Some (call, rest)
-unfolding call_at call_text submit_at take_at adjudicate_at unplan_at plan_at
+unfolding call_at call_text submit_at take_at adjudicate_at unplan_at plan_at terms_at
 call_at-put (Submit text) rest fits = rw (u8_at-put 0 (text_of text ++ rest), text_at-put text rest fits) refl
 call_at-put Tick rest fits = rw (u8_at-put 1 rest) refl
 call_at-put (Take from bytes) rest fits =
     rw (append_assoc (node_text from) (text_of bytes) rest, u8_at-put 2 (node_text from ++ (text_of bytes ++ rest)), node_at-put from (text_of bytes ++ rest) fits.0, text_at-put bytes rest fits.1) refl
 call_at-put Stop rest fits = rw (u8_at-put 3 rest) refl
 call_at-put Start rest fits = rw (u8_at-put 4 rest) refl
-call_at-put (Reprice product None) rest fits = rw (u8_at-put 5 (text_of product ++ rest), text_at-put product rest fits) refl
-call_at-put (Reprice product (Some price)) rest fits =
+call_at-put (Reprice (SetPrice product None)) rest fits = rw (u8_at-put 5 (text_of product ++ rest), text_at-put product rest fits) refl
+call_at-put (Reprice (SetPrice product (Some price))) rest fits =
     rw (append_assoc (text_of product) (to_be_bytes w32 price) rest, u8_at-put 6 (text_of product ++ (to_be_bytes w32 price ++ rest)), text_at-put product (to_be_bytes w32 price ++ rest) fits.0, u32_at-put price rest fits.1) refl
+call_at-put (Reprice (SetTerms fee copay)) rest fits =
+    rw (append_assoc (to_be_bytes w32 fee) (to_be_bytes w32 copay) rest, u8_at-put 9 (to_be_bytes w32 fee ++ (to_be_bytes w32 copay ++ rest)), u32_at-put fee (to_be_bytes w32 copay ++ rest) fits.0, u32_at-put copay rest fits.1) refl
 call_at-put (Adjudicate from bytes advice) rest fits =
     rw (
       append_assoc (node_text from) (text_of bytes ++ text_of advice) rest,

@@ -5,13 +5,14 @@ use Rattle.std.proofs.lemmas.Option.{some_pair_parts, same_Some}
 use Rattle.std.proofs.lemmas.List.{take-append-drop, length-take-le}
 use Rattle.std.specs.Int.{w16, w32, w64, to_be_bytes}
 use Rattle.claim_model.specs.Node.{Node, Pharmacy, Switch, Payer, Sent, Call, Submit, Tick, Take, Stop, Start, Reprice, Adjudicate}
+use Rattle.claim_model.specs.Words.{SetPrice, SetTerms}
 use Rattle.claim_model.specs.Logs.{Logged}
 use Rattle.kept_records.specs.Fields.{u8_at, u16_at, u32_at, u64_at}
 use Rattle.kept_records.specs.Options.{◌>>=◌}
 use Rattle.kept_records.proofs.Chains.{option_then}
 use Rattle.kept_records.proofs.FieldsOnly.{AreBytes, drop_bytes, IsTaken, u8_at_taken, u16_at_taken, u32_at_taken, u64_at_taken}
 use Rattle.kept_logs.specs.Fields.{bytes_at, text_of, text_at, node_text, node_of, node_at}
-use Rattle.kept_logs.specs.Calls.{call_text, call_of, call_at, submit_at, take_at, adjudicate_at, unplan_at, plan_at}
+use Rattle.kept_logs.specs.Calls.{call_text, call_of, call_at, submit_at, take_at, adjudicate_at, unplan_at, plan_at, terms_at}
 use Rattle.kept_logs.specs.Records.{sent_text, sent_at, sents_text, sents_in, logged_text, logged_in}
 
 -- two pieces, one after the other
@@ -96,8 +97,8 @@ submit_taken bytes call rest are h =
 unplan_taken : (bytes : List ℕ) (call : Call) (rest : List ℕ) → AreBytes bytes → unplan_at bytes ≡ Some (call, rest) → Spells 5 bytes call rest
 unfolding unplan_at call_text
 unplan_taken bytes call rest are h =
-    let m = mapped (λ (t : List ℕ × List ℕ). (Reprice t.0 None, t.1)) (text_at bytes) (call, rest) h in
-    spelled 5 bytes (text_of m.0.0) m.0.1 (Reprice m.0.0 None) call rest refl (ap (λ p. p.0) m.2) (ap (λ p. p.1) m.2) (text_at_taken bytes m.0.0 m.0.1 are m.1)
+    let m = mapped (λ (t : List ℕ × List ℕ). (Reprice (SetPrice t.0 None), t.1)) (text_at bytes) (call, rest) h in
+    spelled 5 bytes (text_of m.0.0) m.0.1 (Reprice (SetPrice m.0.0 None)) call rest refl (ap (λ p. p.0) m.2) (ap (λ p. p.1) m.2) (text_at_taken bytes m.0.0 m.0.1 are m.1)
 
 take_taken : (bytes : List ℕ) (call : Call) (rest : List ℕ) → AreBytes bytes → take_at bytes ≡ Some (call, rest) → Spells 2 bytes call rest
 unfolding take_at call_text
@@ -125,13 +126,24 @@ adjudicate_taken bytes call rest are h =
 plan_taken : (bytes : List ℕ) (call : Call) (rest : List ℕ) → AreBytes bytes → plan_at bytes ≡ Some (call, rest) → Spells 6 bytes call rest
 unfolding plan_at call_text
 plan_taken bytes call rest are h =
-    let product = option_then (text_at bytes) (λ (t : List ℕ × List ℕ). u32_at t.1 >>= λ (p : ℕ × List ℕ). Some (Reprice t.0 (Some p.0), p.1)) (call, rest) h in
-    let price = option_then (u32_at product.0.1) (λ (p : ℕ × List ℕ). Some (Reprice product.0.0 (Some p.0), p.1)) (call, rest) product.2 in
-    let parts = some_pair_parts (Reprice product.0.0 (Some price.0.0)) call price.0.1 rest price.2 in
+    let product = option_then (text_at bytes) (λ (t : List ℕ × List ℕ). u32_at t.1 >>= λ (p : ℕ × List ℕ). Some (Reprice (SetPrice t.0 (Some p.0)), p.1)) (call, rest) h in
+    let price = option_then (u32_at product.0.1) (λ (p : ℕ × List ℕ). Some (Reprice (SetPrice product.0.0 (Some p.0)), p.1)) (call, rest) product.2 in
+    let parts = some_pair_parts (Reprice (SetPrice product.0.0 (Some price.0.0))) call price.0.1 rest price.2 in
     let first : IsTaken bytes (text_of product.0.0) product.0.1 = text_at_taken bytes product.0.0 product.0.1 are product.1 in
     let second : IsTaken product.0.1 (to_be_bytes w32 price.0.0) price.0.1 = (u32_at_taken product.0.1 price.0.0 price.0.1 first.rest_bytes price.1).0 in
-    spelled 6 bytes (text_of product.0.0 ++ to_be_bytes w32 price.0.0) price.0.1 (Reprice product.0.0 (Some price.0.0)) call rest refl parts.0 parts.1
+    spelled 6 bytes (text_of product.0.0 ++ to_be_bytes w32 price.0.0) price.0.1 (Reprice (SetPrice product.0.0 (Some price.0.0))) call rest refl parts.0 parts.1
     (both_taken bytes (text_of product.0.0) product.0.1 (to_be_bytes w32 price.0.0) price.0.1 first second)
+
+terms_taken : (bytes : List ℕ) (call : Call) (rest : List ℕ) → AreBytes bytes → terms_at bytes ≡ Some (call, rest) → Spells 9 bytes call rest
+unfolding terms_at call_text
+terms_taken bytes call rest are h =
+    let fee = option_then (u32_at bytes) (λ (f : ℕ × List ℕ). u32_at f.1 >>= λ (c : ℕ × List ℕ). Some (Reprice (SetTerms f.0 c.0), c.1)) (call, rest) h in
+    let copay = option_then (u32_at fee.0.1) (λ (c : ℕ × List ℕ). Some (Reprice (SetTerms fee.0.0 c.0), c.1)) (call, rest) fee.2 in
+    let parts = some_pair_parts (Reprice (SetTerms fee.0.0 copay.0.0)) call copay.0.1 rest copay.2 in
+    let first : IsTaken bytes (to_be_bytes w32 fee.0.0) fee.0.1 = (u32_at_taken bytes fee.0.0 fee.0.1 are fee.1).0 in
+    let second : IsTaken fee.0.1 (to_be_bytes w32 copay.0.0) copay.0.1 = (u32_at_taken fee.0.1 copay.0.0 copay.0.1 first.rest_bytes copay.1).0 in
+    spelled 9 bytes (to_be_bytes w32 fee.0.0 ++ to_be_bytes w32 copay.0.0) copay.0.1 (Reprice (SetTerms fee.0.0 copay.0.0)) call rest refl parts.0 parts.1
+    (both_taken bytes (to_be_bytes w32 fee.0.0) fee.0.1 (to_be_bytes w32 copay.0.0) copay.0.1 first second)
 
 -- a call that is its kind alone
 alone : (kind : ℕ) (bytes : List ℕ) (made call : Call) (rest : List ℕ) → kind ∷ [] ≡ call_text made → ◌≡◌ {A = Option (Call × List ℕ)} (Some (made, bytes)) (Some (call, rest)) → Spells kind bytes call rest
@@ -150,7 +162,8 @@ by_kind (suc (suc (suc (suc (suc zero))))) bytes call rest are h = unplan_taken 
 by_kind (suc (suc (suc (suc (suc (suc zero)))))) bytes call rest are h = plan_taken bytes call rest are h
 by_kind (suc (suc (suc (suc (suc (suc (suc zero))))))) bytes call rest are h = cc
 by_kind (suc (suc (suc (suc (suc (suc (suc (suc zero)))))))) bytes call rest are h = adjudicate_taken bytes call rest are h
-by_kind (suc (suc (suc (suc (suc (suc (suc (suc (suc kind))))))))) bytes call rest are h = cc
+by_kind (suc (suc (suc (suc (suc (suc (suc (suc (suc zero))))))))) bytes call rest are h = terms_taken bytes call rest are h
+by_kind (suc (suc (suc (suc (suc (suc (suc (suc (suc (suc kind)))))))))) bytes call rest are h = cc
 
 pub call_at_taken : (bytes : List ℕ) (call : Call) (rest : List ℕ) → AreBytes bytes → call_at bytes ≡ Some (call, rest) → IsTaken bytes (call_text call) rest
 unfolding call_at

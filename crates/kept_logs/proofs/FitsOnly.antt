@@ -3,13 +3,14 @@ use Rattle.std.proofs.Common.{◌≡◌, ℕ, zero, suc, ◌<◌, ◌^◌, List,
 use Rattle.std.proofs.lemmas.Option.{some_pair_parts, same_Some}
 use Rattle.std.specs.List.{AllByRecursion}
 use Rattle.claim_model.specs.Node.{Node, Pharmacy, Switch, Payer, Sent, Call, Submit, Tick, Take, Stop, Start, Reprice, Adjudicate}
+use Rattle.claim_model.specs.Words.{SetPrice, SetTerms}
 use Rattle.claim_model.specs.Logs.{Logged}
 use Rattle.kept_records.specs.Fields.{u8_at, u16_at, u32_at, u64_at}
 use Rattle.kept_records.specs.Options.{◌>>=◌}
 use Rattle.kept_records.proofs.Chains.{option_then}
 use Rattle.kept_records.proofs.FieldsOnly.{AreBytes, IsTaken, u8_at_taken, u16_at_taken, u32_at_taken, u64_at_taken}
 use Rattle.kept_logs.specs.Fields.{bytes_at, text_at, node_of, node_at, node_text, text_of}
-use Rattle.kept_logs.specs.Calls.{call_of, call_at, submit_at, take_at, adjudicate_at, unplan_at, plan_at}
+use Rattle.kept_logs.specs.Calls.{call_of, call_at, submit_at, take_at, adjudicate_at, unplan_at, plan_at, terms_at}
 use Rattle.kept_logs.specs.Records.{sent_at, sents_in, logged_in, sent_text}
 use Rattle.kept_logs.specs.Fits.{FitsNode, FitsCall, FitsSent, FitsLogged}
 use Rattle.kept_logs.proofs.FieldsOnly.{bytes_at_taken, text_at_taken, node_at_taken, mapped, call_at_taken, sent_at_taken}
@@ -51,8 +52,8 @@ submit_fits bytes call rest are h =
 unplan_fits : (bytes : List ℕ) (call : Call) (rest : List ℕ) → AreBytes bytes → unplan_at bytes ≡ Some (call, rest) → FitsCall call
 unfolding unplan_at
 unplan_fits bytes call rest are h =
-    let m = mapped (λ (t : List ℕ × List ℕ). (Reprice t.0 None, t.1)) (text_at bytes) (call, rest) h in
-    let is : Reprice m.0.0 None ≡ call = ap (λ p. p.0) m.2 in
+    let m = mapped (λ (t : List ℕ × List ℕ). (Reprice (SetPrice t.0 None), t.1)) (text_at bytes) (call, rest) h in
+    let is : Reprice (SetPrice m.0.0 None) ≡ call = ap (λ p. p.0) m.2 in
     subst FitsCall is (text_fits bytes m.0.0 m.0.1 are m.1)
 
 take_fits : (bytes : List ℕ) (call : Call) (rest : List ℕ) → AreBytes bytes → take_at bytes ≡ Some (call, rest) → FitsCall call
@@ -78,12 +79,22 @@ adjudicate_fits bytes call rest are h =
 plan_fits : (bytes : List ℕ) (call : Call) (rest : List ℕ) → AreBytes bytes → plan_at bytes ≡ Some (call, rest) → FitsCall call
 unfolding plan_at
 plan_fits bytes call rest are h =
-    let product = option_then (text_at bytes) (λ (t : List ℕ × List ℕ). u32_at t.1 >>= λ (p : ℕ × List ℕ). Some (Reprice t.0 (Some p.0), p.1)) (call, rest) h in
-    let price = option_then (u32_at product.0.1) (λ (p : ℕ × List ℕ). Some (Reprice product.0.0 (Some p.0), p.1)) (call, rest) product.2 in
-    let parts = some_pair_parts (Reprice product.0.0 (Some price.0.0)) call price.0.1 rest price.2 in
+    let product = option_then (text_at bytes) (λ (t : List ℕ × List ℕ). u32_at t.1 >>= λ (p : ℕ × List ℕ). Some (Reprice (SetPrice t.0 (Some p.0)), p.1)) (call, rest) h in
+    let price = option_then (u32_at product.0.1) (λ (p : ℕ × List ℕ). Some (Reprice (SetPrice product.0.0 (Some p.0)), p.1)) (call, rest) product.2 in
+    let parts = some_pair_parts (Reprice (SetPrice product.0.0 (Some price.0.0))) call price.0.1 rest price.2 in
     let first : IsTaken bytes (text_of product.0.0) product.0.1 = text_at_taken bytes product.0.0 product.0.1 are product.1 in
     let second = u32_at_taken product.0.1 price.0.0 price.0.1 first.rest_bytes price.1 in
     subst FitsCall parts.0 (text_fits bytes product.0.0 product.0.1 are product.1, second.1)
+
+terms_fits : (bytes : List ℕ) (call : Call) (rest : List ℕ) → AreBytes bytes → terms_at bytes ≡ Some (call, rest) → FitsCall call
+unfolding terms_at
+terms_fits bytes call rest are h =
+    let fee = option_then (u32_at bytes) (λ (f : ℕ × List ℕ). u32_at f.1 >>= λ (c : ℕ × List ℕ). Some (Reprice (SetTerms f.0 c.0), c.1)) (call, rest) h in
+    let copay = option_then (u32_at fee.0.1) (λ (c : ℕ × List ℕ). Some (Reprice (SetTerms fee.0.0 c.0), c.1)) (call, rest) fee.2 in
+    let parts = some_pair_parts (Reprice (SetTerms fee.0.0 copay.0.0)) call copay.0.1 rest copay.2 in
+    let first = u32_at_taken bytes fee.0.0 fee.0.1 are fee.1 in
+    let second = u32_at_taken fee.0.1 copay.0.0 copay.0.1 first.0.rest_bytes copay.1 in
+    subst FitsCall parts.0 (first.1, second.1)
 
 alone : (bytes : List ℕ) (made call : Call) (rest : List ℕ) → FitsCall made → ◌≡◌ {A = Option (Call × List ℕ)} (Some (made, bytes)) (Some (call, rest)) → FitsCall call
 alone bytes made call rest fits h = subst FitsCall (some_pair_parts made call bytes rest h).0 fits
@@ -98,7 +109,8 @@ by_kind (suc (suc (suc (suc (suc zero))))) bytes call rest are h = unplan_fits b
 by_kind (suc (suc (suc (suc (suc (suc zero)))))) bytes call rest are h = plan_fits bytes call rest are h
 by_kind (suc (suc (suc (suc (suc (suc (suc zero))))))) bytes call rest are h = cc
 by_kind (suc (suc (suc (suc (suc (suc (suc (suc zero)))))))) bytes call rest are h = adjudicate_fits bytes call rest are h
-by_kind (suc (suc (suc (suc (suc (suc (suc (suc (suc kind))))))))) bytes call rest are h = cc
+by_kind (suc (suc (suc (suc (suc (suc (suc (suc (suc zero))))))))) bytes call rest are h = terms_fits bytes call rest are h
+by_kind (suc (suc (suc (suc (suc (suc (suc (suc (suc (suc kind)))))))))) bytes call rest are h = cc
 
 pub call_fits : (bytes : List ℕ) (call : Call) (rest : List ℕ) → AreBytes bytes → call_at bytes ≡ Some (call, rest) → FitsCall call
 unfolding call_at

@@ -4,6 +4,7 @@ use Rattle.std.proofs.lemmas.Bool.{and_parts}
 use Rattle.std.proofs.lemmas.Bool.Decides.{nat_tests}
 use Rattle.std.specs.Int.{w32, w64, to_be_bytes}
 use Rattle.claim_model.specs.Node.{Call, Submit, Tick, Take, Stop, Start, Reprice, Adjudicate}
+use Rattle.claim_model.specs.Words.{SetPrice, SetTerms}
 use Rattle.claim_model.specs.Logs.{Logged}
 use Rattle.kept_records.specs.Fields.{u8_at}
 use Rattle.kept_records.proofs.FieldsBack.{u64_at-put}
@@ -33,8 +34,9 @@ call_begins Tick rest = record { kind = 1; rest = rest; is = refl; other = refl 
 call_begins (Take from bytes) rest = record { kind = 2; rest = (node_text from ++ text_of bytes) ++ rest; is = refl; other = refl }
 call_begins Stop rest = record { kind = 3; rest = rest; is = refl; other = refl }
 call_begins Start rest = record { kind = 4; rest = rest; is = refl; other = refl }
-call_begins (Reprice product None) rest = record { kind = 5; rest = text_of product ++ rest; is = refl; other = refl }
-call_begins (Reprice product (Some price)) rest = record { kind = 6; rest = (text_of product ++ to_be_bytes w32 price) ++ rest; is = refl; other = refl }
+call_begins (Reprice (SetPrice product None)) rest = record { kind = 5; rest = text_of product ++ rest; is = refl; other = refl }
+call_begins (Reprice (SetPrice product (Some price))) rest = record { kind = 6; rest = (text_of product ++ to_be_bytes w32 price) ++ rest; is = refl; other = refl }
+call_begins (Reprice (SetTerms fee copay)) rest = record { kind = 9; rest = (to_be_bytes w32 fee ++ to_be_bytes w32 copay) ++ rest; is = refl; other = refl }
 call_begins (Adjudicate from bytes advice) rest = record { kind = 8; rest = (node_text from ++ (text_of bytes ++ text_of advice)) ++ rest; is = refl; other = refl }
 
 logged_begins : (r : Logged) → Begins (logged_text r)

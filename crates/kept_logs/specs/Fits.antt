@@ -2,6 +2,7 @@
 use Rattle.std.specs.Prelude.{◌≡◌, ⊤, ℕ, ◌<◌, ◌^◌, true, length, Some, None}
 use Rattle.std.specs.List.{AllByRecursion}
 use Rattle.claim_model.specs.Node.{Node, Pharmacy, Switch, Payer, Sent, Call, Submit, Tick, Take, Stop, Start, Reprice, Adjudicate}
+use Rattle.claim_model.specs.Words.{SetPrice, SetTerms}
 use Rattle.claim_model.specs.Logs.{Logged}
 use Rattle.kept_logs.specs.Stamps.{Stamped, KeptLog, stamped_text}
 use Rattle.kept_logs.specs.Frames.{is_size}
@@ -22,8 +23,9 @@ FitsCall Tick = ⊤
 FitsCall (Take from bytes) = FitsNode from × (length bytes < 2 ^ 64)
 FitsCall Stop = ⊤
 FitsCall Start = ⊤
-FitsCall (Reprice product None) = length product < 2 ^ 64
-FitsCall (Reprice product (Some price)) = (length product < 2 ^ 64) × (price < 2 ^ 32)
+FitsCall (Reprice (SetPrice product None)) = length product < 2 ^ 64
+FitsCall (Reprice (SetPrice product (Some price))) = (length product < 2 ^ 64) × (price < 2 ^ 32)
+FitsCall (Reprice (SetTerms fee copay)) = (fee < 2 ^ 32) × (copay < 2 ^ 32)
 FitsCall (Adjudicate from bytes advice) = FitsNode from × (length bytes < 2 ^ 64) × (length advice < 2 ^ 64)
 
 -- a packet's numbers
@@ -44,7 +46,7 @@ pub record FitsStamped (r : Stamped) : Type 0 where
   pub reference : length r.stamp.reference < 2 ^ 64
   pub body : is_size (length (stamped_text r)) ≡ true
 
--- a log's numbers: each node's has two bytes, each price four, each length and each time eight, and no body of a record has more than it may
+-- a log's numbers: each node's has two bytes, each price, fee and copay four, each length and each time eight, and no body of a record has more than it may
 pub record FitsKept (log : KeptLog) : Type 0 where
   pub node : FitsNode log.node
   pub calls : AllByRecursion FitsStamped log.calls

@@ -3,8 +3,9 @@
 ghost use Rattle.std.specs.Prelude.{◌≡◌, ◌++◌, OnOk, IfOk};
 ghost use Rattle.std.specs.Option.{option_map};
 ghost use Rattle.claim_model.specs.Node.{Submit, Take, Reprice, Adjudicate};
+ghost use Rattle.claim_model.specs.Words.{SetPrice, SetTerms};
 ghost use Rattle.world_setup.specs.Seen.{node_seen, call_seen};
-ghost use Rattle.kept_logs.specs.Calls.{call_text, call_at, call_of, submit_at, take_at, adjudicate_at, unplan_at, plan_at};
+ghost use Rattle.kept_logs.specs.Calls.{call_text, call_at, call_of, submit_at, take_at, adjudicate_at, unplan_at, plan_at, terms_at};
 ghost use Rattle.kept_logs.specs.Fits.{FitsCall};
 
 use crate::fields::{take_node, take_text};
@@ -27,6 +28,7 @@ pub(crate) fn put_call(out: &mut Vec<u8>, call: &Call) -> Result<(), AllocError>
         Call::Stop => put_u8(out, 3),
         Call::Start => put_u8(out, 4),
         Call::Plan { product, price } => put_plan(out, product, *price),
+        Call::Terms { fee, copay } => put_terms(out, *fee, *copay),
         Call::Adjudicate {
             from,
             bytes,
@@ -74,11 +76,11 @@ fn put_adjudicate(
     put_text(out, advice.as_slice())
 }
 
-/// Puts a change of a plan.
+/// Puts a change of a price.
 #[tactic(auto, unfolding(crate::specs::Calls::call_text))]
 fn put_plan(out: &mut Vec<u8>, product: &Octets, price: Option<u32>) -> Result<(), AllocError>
-    ensures text { OnOk result (out.new.items ≡ out.old.items ++ call_text (Reprice product.now price)) }
-    ensures fits { OnOk result (FitsCall (Reprice product.now price)) }
+    ensures text { OnOk result (out.new.items ≡ out.old.items ++ call_text (Reprice (SetPrice product.now price))) }
+    ensures fits { OnOk result (FitsCall (Reprice (SetPrice product.now price))) }
 {
     match price {
         None => {
@@ -91,6 +93,17 @@ fn put_plan(out: &mut Vec<u8>, product: &Octets, price: Option<u32>) -> Result<(
             put_u32(out, price)
         }
     }
+}
+
+/// Puts a change of the terms of a plan.
+#[tactic(auto, unfolding(crate::specs::Calls::call_text))]
+fn put_terms(out: &mut Vec<u8>, fee: u32, copay: u32) -> Result<(), AllocError>
+    ensures text { OnOk result (out.new.items ≡ out.old.items ++ call_text (Reprice (SetTerms fee copay))) }
+    ensures fits { OnOk result (FitsCall (Reprice (SetTerms fee copay))) }
+{
+    put_u8(out, 9)?;
+    put_u32(out, fee)?;
+    put_u32(out, copay)
 }
 
 /// The call at the front and what follows it; none where it is cut off or of no kind that there is.
@@ -117,6 +130,7 @@ fn call_of(alloc: Global, kind: u8, bytes: &[u8]) -> Result<Option<(Call, &[u8])
         5 => take_unplan(alloc, bytes),
         6 => take_plan(alloc, bytes),
         8 => take_adjudicate(alloc, bytes),
+        9 => Ok(take_terms(bytes)),
         _ => Ok(None),
     }
 }
@@ -207,4 +221,14 @@ fn take_plan(alloc: Global, bytes: &[u8]) -> Result<Option<(Call, &[u8])>, Alloc
         price: Some(price),
     };
     Ok(Some((call, rest)))
+}
+
+/// A fee and a copay, and what follows them.
+#[tactic(auto, unfolding(crate::specs::Calls::terms_at))]
+fn take_terms(bytes: &[u8]) -> Option<(Call, &[u8])>
+    ensures { option_map (λ taken. (call_seen taken.0, taken.1.now)) result ≡ terms_at bytes.now }
+{
+    let (fee, rest) = take_u32(bytes)?;
+    let (copay, rest) = take_u32(rest)?;
+    Some((Call::Terms { fee, copay }, rest))
 }

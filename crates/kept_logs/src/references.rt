@@ -69,6 +69,7 @@ pub fn note_reference(
         Call::Stop => Ok(()),
         Call::Start => Ok(()),
         Call::Plan { .. } => Ok(()),
+        Call::Terms { .. } => Ok(()),
         Call::Adjudicate { .. } => Ok(()),
     }
 }

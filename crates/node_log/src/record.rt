@@ -73,6 +73,10 @@ fn copy_call(call: &Call) -> Result<Call, AllocError>
             product: product.copy()?,
             price: *price,
         }),
+        Call::Terms { fee, copay } => Ok(Call::Terms {
+            fee: *fee,
+            copay: *copay,
+        }),
         Call::Adjudicate {
             from,
             bytes,

@@ -15,8 +15,8 @@ same_plan a b f c p = λ i. record { fee = f i; copay = c i; prices = p i }
 pub same_payer : (a b : PayerSettings) → a.book.serial ≡ b.book.serial → a.book.cap ≡ b.book.cap → a.book.asks ≡ b.book.asks → a.plan ≡ b.plan → a ≡ b
 same_payer a b s c k p = λ i. record { book = record { serial = s i; cap = c i; asks = k i }; plan = p i; keys = tt }
 
-pub same_row : (a b : Row) → a.bin ≡ b.bin → a.pcn ≡ b.pcn → a.providers ≡ b.providers → a.payer ≡ b.payer → a ≡ b
-same_row a b n p r y = λ i. record { bin = n i; pcn = p i; providers = r i; payer = y i }
+pub same_row : (a b : Row) → a.bin ≡ b.bin → a.pcn ≡ b.pcn → a.providers ≡ b.providers → a.payer ≡ b.payer → a.rejected ≡ b.rejected → a ≡ b
+same_row a b n p r y j = λ i. record { bin = n i; pcn = p i; providers = r i; payer = y i; rejected = j i }
 
 pub same_range : (a b : Providers) → a.qualifier ≡ b.qualifier → a.first ≡ b.first → a.last ≡ b.last → Some a ≡ Some b
 same_range a b q f l = λ i. Some (record { qualifier = q i; first = f i; last = l i })

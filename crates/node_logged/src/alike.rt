@@ -82,6 +82,7 @@ impl Alike for RouteRow {
             && is_same_number(self.pcn(), other.pcn())
             && is_same_range(self.providers(), other.providers())
             && self.payer() == other.payer()
+            && self.rejected() == other.rejected()
     }
 }
 

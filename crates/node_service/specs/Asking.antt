@@ -6,9 +6,9 @@ use Rattle.input_text.specs.Options.{◌>>=◌}
 use Rattle.input_text.specs.Words.{split_word}
 use Rattle.input_text.specs.Decimals.{decimal_number}
 use Rattle.input_text.specs.Printing.{unprinted}
-use Rattle.schedule.specs.Events.{product_in, price_in}
+use Rattle.schedule.specs.Events.{product_in, price_in, price_of}
 use Rattle.world_setup.specs.declared.call.Call as declared
-use Rattle.world_setup.specs.declared.call.Call.TheVariants.{Submit, Tick, Take, Stop, Start, Plan, Adjudicate}
+use Rattle.world_setup.specs.declared.call.Call.TheVariants.{Submit, Tick, Take, Stop, Start, Plan, Terms, Adjudicate}
 use Rattle.schedule.specs.Nodes.{node_in}
 use Rattle.node_service.specs.declared.asking.Asked as value
 use Rattle.node_service.specs.declared.asking.Asked.TheVariants as asked
@@ -55,6 +55,18 @@ plan_change rest = do
   price ← price_in parts.1
   Some (Plan product price)
 
+-- a number of cents in 1 to 10 digits
+abbrev pub cents_in : List ℕ → Option ℕ
+cents_in word = decimal_number 10 word >>= price_of
+
+-- a fee and a copay
+unfoldable pub terms_change : List ℕ → Option Call
+terms_change rest = do
+  parts ← split_word rest
+  fee ← cents_in parts.0
+  copay ← cents_in parts.1
+  Some (Terms fee copay)
+
 -- the calls that are one word
 abbrev pub plain_call : List ℕ → Option Call
 plain_call line =
@@ -68,7 +80,8 @@ call_with word rest =
     if bytes_eq word (codes "submit") then submission rest else
     if bytes_eq word (codes "take") then taking rest else
     if bytes_eq word (codes "adjudicate") then adjudication rest else
-    if bytes_eq word (codes "plan") then plan_change rest else None
+    if bytes_eq word (codes "plan") then plan_change rest else
+    if bytes_eq word (codes "terms") then terms_change rest else None
 
 abbrev pub call_parted : List ℕ → Option (List ℕ × List ℕ) → Option Call
 call_parted line (Some parts) = call_with parts.0 parts.1

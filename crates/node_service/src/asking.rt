@@ -2,7 +2,8 @@
 
 ghost use Rattle.std.specs.Prelude.{◌≡◌, IfOk};
 ghost use Rattle.std.specs.Option.{option_map};
-ghost use Rattle.node_service.specs.Asking.{adjudication, asked_of, asked_seen, bytes_in, call_of, call_with, named_of, named_submission, noted_of, noted_seen, plain_call, plain_question, plan_change, question_of, question_with, range_in, reference_in, reference_of, submission, taking, timed, unnoted};
+ghost use Rattle.schedule.specs.Events.{price_of};
+ghost use Rattle.node_service.specs.Asking.{adjudication, asked_of, asked_seen, bytes_in, call_of, call_with, cents_in, named_of, named_submission, noted_of, noted_seen, plain_call, plain_question, plan_change, question_of, question_with, range_in, reference_in, reference_of, submission, taking, terms_change, timed, unnoted};
 
 use input_text::{PrintedFault, read_decimal, split_word, unprint};
 use octets::Octets;
@@ -12,6 +13,12 @@ use world_setup::Call;
 
 /// The most digits of an entry's number, or of a count (own).
 const MOST_NUMBER_DIGITS: usize = 18;
+
+/// The most digits of a fee or a copay (own).
+const MOST_CENTS_DIGITS: usize = 10;
+
+/// The largest number of 32 bits.
+const LARGEST: u64 = 4_294_967_295;
 
 /// The most bytes of what a caller calls a submission (own).
 const MOST_REFERENCE: usize = 64;
@@ -53,8 +60,8 @@ pub(crate) enum Question {
 /// What a line asks; `None` where it spells nothing.
 ///
 /// The lines: `submit TEXT`, `submit-as REFERENCE TEXT`, `tick`, `take FROM TEXT`, `adjudicate FROM ADVICE TEXT`, `stop`, `start`,
-/// `plan PRODUCT PRICE`, each also after `at TIME`, and those that change nothing, `answer NUMBER`, `open NUMBER COUNT`, `count`,
-/// `row NUMBER`, `payments NUMBER COUNT`. Texts, references and advices are printed bytes.
+/// `plan PRODUCT PRICE`, `terms FEE COPAY`, each also after `at TIME`, and those that change nothing, `answer NUMBER`,
+/// `open NUMBER COUNT`, `count`, `row NUMBER`, `payments NUMBER COUNT`. Texts, references and advices are printed bytes.
 ///
 /// # Errors
 /// Memory was refused.
@@ -260,6 +267,9 @@ fn call_with(alloc: Global, word: &[u8], rest: &[u8]) -> Result<Option<Call>, Al
     if word == b"plan".as_slice() {
         return plan_change(alloc, rest);
     }
+    if word == b"terms".as_slice() {
+        return Ok(terms_change(rest));
+    }
     Ok(None)
 }
 
@@ -349,7 +359,7 @@ fn bytes_in(alloc: Global, text: &[u8]) -> Result<Option<Octets>, AllocError>
     }
 }
 
-/// The change of a plan, by a product and its price.
+/// The change of a price, by a product and its price.
 #[tactic(auto, unfolding(crate::specs::Asking::plan_change))]
 fn plan_change(alloc: Global, rest: &[u8]) -> Result<Option<Call>, AllocError>
     ensures { IfOk result (λ call. call ≡ plan_change rest.now) }
@@ -364,4 +374,33 @@ fn plan_change(alloc: Global, rest: &[u8]) -> Result<Option<Call>, AllocError>
         Some(price) => Ok(Some(Call::Plan { product, price })),
         None => Ok(None),
     }
+}
+
+/// The change of the terms of a plan, by a fee and a copay.
+#[tactic(auto, unfolding(crate::specs::Asking::terms_change))]
+fn terms_change(rest: &[u8]) -> Option<Call>
+    ensures { result ≡ terms_change rest.now }
+{
+    let (first, behind) = split_word(rest)?;
+    let fee = cents_in(first)?;
+    let copay = cents_in(behind)?;
+    Some(Call::Terms { fee, copay })
+}
+
+/// The number of cents that a word spells.
+fn cents_in(word: &[u8]) -> Option<u32>
+    ensures { result ≡ cents_in word.now }
+{
+    let number = read_decimal(word, MOST_CENTS_DIGITS)?;
+    price_of(number)
+}
+
+/// A number of 32 bits.
+fn price_of(number: u64) -> Option<u32>
+    ensures { result ≡ price_of number }
+{
+    if number > LARGEST {
+        return None;
+    }
+    Some(number as u32)
 }

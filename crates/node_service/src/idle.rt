@@ -18,6 +18,7 @@ pub(crate) fn is_idle_call(state: &NodeState, call: &Call) -> bool
         Call::Stop => false,
         Call::Start => false,
         Call::Plan { .. } => false,
+        Call::Terms { .. } => false,
         Call::Adjudicate { .. } => false,
     }
 }

@@ -53,6 +53,7 @@ fn put_last(
         Call::Stop => put_done(out),
         Call::Start => put_done(out),
         Call::Plan { .. } => put_done(out),
+        Call::Terms { .. } => put_done(out),
         Call::Adjudicate { .. } => put_done(out),
     }
 }

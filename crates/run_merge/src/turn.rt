@@ -2,6 +2,7 @@
 
 ghost use Rattle.std.specs.Prelude.{IfOk};
 ghost use Rattle.claim_model.specs.Node.{Submit, Tick, Take, Stop, Start, Reprice, Adjudicate};
+ghost use Rattle.claim_model.specs.Words.{SetPrice, SetTerms};
 ghost use Rattle.world_setup.specs.Seen.{node_seen, call_seen};
 ghost use Rattle.run_merge.specs.Found.{EventFor};
 
@@ -26,6 +27,7 @@ pub(crate) fn event_for<'a>(
         Call::Stop => Ok(Some(Event::Stop(node))),
         Call::Start => Ok(Some(Event::Start(node))),
         Call::Plan { product, price } => plan(posted, node, product, *price),
+        Call::Terms { fee, copay } => Ok(terms(posted, node, *fee, *copay)),
         Call::Adjudicate {
             from,
             bytes,
@@ -88,14 +90,14 @@ fn adjudicate<'a>(
     }
 }
 
-/// A change of a plan, at a payer.
+/// A change of a price, at a payer.
 fn plan(
     posted: &Posted<'_>,
     node: Node,
     product: &Octets,
     price: Option<u32>,
 ) -> Result<Option<Event>, AllocError>
-    ensures { IfOk result (λ o. EventFor posted.now (node_seen node) (Reprice product.now price) o) }
+    ensures { IfOk result (λ o. EventFor posted.now (node_seen node) (Reprice (SetPrice product.now price)) o) }
 {
     match node {
         Node::Payer(payer) => Ok(Some(Event::Plan {
@@ -105,5 +107,16 @@ fn plan(
         })),
         Node::Pharmacy(_) => Ok(None),
         Node::Switch(_) => Ok(None),
+    }
+}
+
+/// A change of the terms of a plan, at a payer.
+fn terms(posted: &Posted<'_>, node: Node, fee: u32, copay: u32) -> Option<Event>
+    ensures { EventFor posted.now (node_seen node) (Reprice (SetTerms fee copay)) result }
+{
+    match node {
+        Node::Payer(payer) => Some(Event::Terms { payer, fee, copay }),
+        Node::Pharmacy(_) => None,
+        Node::Switch(_) => None,
     }
 }

@@ -1,5 +1,5 @@
--- Events of which none is an adjudication are spelled by the same lines where no payer may ask.
-use Rattle.std.proofs.Common.{◌≡◌, ℕ, Bool, true, false, ◌&&◌, List, [], ◌∷◌, Option, Some, None, Result, Ok, Err, refl, sym, ap, ◌∙◌, inl, inr}
+-- Events of which none is an adjudication or a change of terms are spelled by the same lines where nodes do not live.
+use Rattle.std.proofs.Common.{◌≡◌, ℕ, Bool, true, false, ◌&&◌, cond, List, [], ◌∷◌, Option, Some, None, Result, Ok, Err, refl, sym, ap, ◌∙◌, inl, inr}
 use Rattle.std.specs.Prelude.{bytes_eq, codes}
 use Rattle.std.specs.Result.{result_ok}
 use Rattle.std.proofs.lemmas.Bool.{and_parts, cases_Bool}
@@ -8,8 +8,9 @@ use Rattle.input_text.specs.Words.{split_word}
 use Rattle.input_text.specs.Decimals.{decimal_number}
 use Rattle.input_text.specs.Printing.{unprinted}
 use Rattle.world_setup.specs.declared.event.Event.{Event}
-use Rattle.world_setup.specs.declared.event.Event.TheVariants.{Adjudicate}
-use Rattle.schedule.specs.Events.{event_with, event_of, adjudication, living_event_with, living_event_of, has_no_advice, have_no_advice}
+use Rattle.world_setup.specs.declared.event.Event.TheVariants.{Terms, Adjudicate}
+use Rattle.schedule.specs.Nodes.{payer_in}
+use Rattle.schedule.specs.Events.{event_with, event_of, adjudication, cents_in, terms_change, living_event_with, living_event_of, has_no_advice, have_no_advice}
 use Rattle.schedule.specs.Reading.{NumberedLine, told_lines, spelled_in}
 use Rattle.schedule.proofs.EventLists.{joined, first_taken, first_bad, no_lines}
 
@@ -33,9 +34,30 @@ adjudicated : (rest : List ℕ) (e : Event) → adjudication rest ≡ Some e →
 unfolding adjudication
 adjudicated rest e is plain = behind_word (split_word rest) e is plain
 
+-- nor is what stands after `terms`
+behind : {A : Type 0} (o : Option A) (f : A → Option Event) (e : Event) → (o >>= f) ≡ Some e → ((a : A) → f a ≡ Some e → ⊥) → ⊥
+behind None f e is none = absurd cc
+behind (Some a) f e is none = none a is
+
+of_terms : (payer fee copay : ℕ) (e : Event) → ◌≡◌ {A = Option Event} (Some (Terms payer fee copay)) (Some e) → has_no_advice e ≡ true → ⊥
+of_terms payer fee copay e is plain =
+    let same : Terms payer fee copay ≡ e = cc in
+    let wrong : false ≡ true = ap has_no_advice same ∙ plain in
+    absurd cc
+
+retermed : (rest : List ℕ) (e : Event) → terms_change rest ≡ Some e → has_no_advice e ≡ true → ⊥
+unfolding terms_change
+retermed rest e is plain =
+    behind (split_word rest) _ e is (λ p named. behind (payer_in p.0) _ e named (λ payer worded. behind (split_word p.1) _ e worded
+    (λ words first. behind (cents_in words.0) _ e first (λ fee second. behind (cents_in words.1) _ e second (λ copay last. of_terms payer fee copay e last plain)))))
+
+by_terms : (word rest : List ℕ) (e : Event) (b : Bool) → bytes_eq word (codes "terms") ≡ b → cond (bytes_eq word (codes "terms")) (terms_change rest) (event_with word rest) ≡ Some e → has_no_advice e ≡ true → event_with word rest ≡ Some e
+by_terms word rest e true same is plain = absurd (retermed rest e (sym (rw same refl) ∙ is) plain)
+by_terms word rest e false same is plain = sym (rw same refl) ∙ is
+
 by_word : (word rest : List ℕ) (e : Event) (b : Bool) → bytes_eq word (codes "adjudicate") ≡ b → living_event_with word rest ≡ Some e → has_no_advice e ≡ true → event_with word rest ≡ Some e
 by_word word rest e true same is plain = absurd (adjudicated rest e (sym (rw same refl) ∙ is) plain)
-by_word word rest e false same is plain = sym (rw same refl) ∙ is
+by_word word rest e false same is plain = by_terms word rest e (bytes_eq word (codes "terms")) refl (sym (rw same refl) ∙ is) plain
 
 by_parts : (parts : Option (List ℕ × List ℕ)) (e : Event) → (parts >>= (λ p. living_event_with p.0 p.1)) ≡ Some e → has_no_advice e ≡ true → (parts >>= (λ p. event_with p.0 p.1)) ≡ Some e
 by_parts None e is plain = absurd cc

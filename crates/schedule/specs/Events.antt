@@ -8,7 +8,7 @@ use Rattle.input_text.specs.Words.{split_word}
 use Rattle.input_text.specs.Decimals.{decimal_number}
 use Rattle.input_text.specs.Printing.{unprinted}
 use Rattle.world_setup.specs.declared.event.Event.{Event}
-use Rattle.world_setup.specs.declared.event.Event.TheVariants.{Submit, Tick, Deliver, Stop, Start, Plan, Adjudicate}
+use Rattle.world_setup.specs.declared.event.Event.TheVariants.{Submit, Tick, Deliver, Stop, Start, Plan, Terms, Adjudicate}
 use Rattle.schedule.specs.Nodes.{pharmacy_in, payer_in, node_in}
 
 -- a pharmacy and, after one space, the rest of the line: a request in printed bytes, which may be empty
@@ -59,7 +59,7 @@ event_with word rest =
 unfoldable pub event_of : List ℕ → Option Event
 event_of line = split_word line >>= (λ parts. event_with parts.0 parts.1)
 
--- ---- of nodes that live: a payer may ask
+-- ---- of nodes that live: a payer may ask, and its terms may change
 
 -- a packet and, after one space, the rest of the line: an advice in printed bytes, which may be empty
 unfoldable pub adjudication : List ℕ → Option Event
@@ -69,20 +69,36 @@ adjudication rest = do
   advice ← result_ok (unprinted parts.1)
   Some (Adjudicate packet advice)
 
+-- a number of cents, of at most 10 digits
+abbrev pub cents_in : List ℕ → Option ℕ
+cents_in word = decimal_number 10 word >>= price_of
+
+-- a payer, a fee and a copay
+unfoldable pub terms_change : List ℕ → Option Event
+terms_change rest = do
+  parts ← split_word rest
+  payer ← payer_in parts.0
+  words ← split_word parts.1
+  fee ← cents_in words.0
+  copay ← cents_in words.1
+  Some (Terms payer fee copay)
+
 -- the event of a word and what stands after it
 abbrev pub living_event_with : List ℕ → List ℕ → Option Event
-living_event_with word rest = if bytes_eq word (codes "adjudicate") then adjudication rest else event_with word rest
+living_event_with word rest =
+    if bytes_eq word (codes "adjudicate") then adjudication rest else
+    if bytes_eq word (codes "terms") then terms_change rest else event_with word rest
 
 -- the event that a line spells
 unfoldable pub living_event_of : List ℕ → Option Event
 living_event_of line = split_word line >>= (λ parts. living_event_with parts.0 parts.1)
 
--- what a line spells, where payers may ask and where they may not
+-- what a line spells, where nodes live and where they do not
 abbrev pub line_event : Bool → List ℕ → Option Event
 line_event false = event_of
 line_event true = living_event_of
 
--- an event that has a line also where no payer may ask
+-- an event that has a line also where nodes do not live: no packet with an advice, and no change of terms
 abbrev pub has_no_advice : Event → Bool
 has_no_advice (Submit pharmacy text) = true
 has_no_advice (Tick pharmacy) = true
@@ -90,6 +106,7 @@ has_no_advice (Deliver packet) = true
 has_no_advice (Stop node) = true
 has_no_advice (Start node) = true
 has_no_advice (Plan payer product price) = true
+has_no_advice (Terms payer fee copay) = false
 has_no_advice (Adjudicate packet advice) = false
 
 abbrev pub have_no_advice : List Event → Bool

@@ -33,7 +33,7 @@ spelled_in spelled lines = unless_bad (bad_line spelled lines) (filter_map (λ l
 abbrev pub events_of : List (List ℕ) → Result (List Event) ℕ
 events_of lines = spelled_in event_of (told_lines (enumerate_from 1 lines))
 
--- the same where payers may ask
+-- the same where nodes live
 abbrev pub living_events_of : List (List ℕ) → Result (List Event) ℕ
 living_events_of lines = spelled_in living_event_of (told_lines (enumerate_from 1 lines))
 

@@ -115,8 +115,10 @@ fn as_command(event: Event) -> Option<Command>
             product,
             price,
         }),
-        Event::Deliver { .. } | Event::Stop(_) | Event::Start(_) | Event::Adjudicate { .. } => {
-            None
-        }
+        Event::Deliver { .. }
+        | Event::Stop(_)
+        | Event::Start(_)
+        | Event::Terms { .. }
+        | Event::Adjudicate { .. } => None,
     }
 }

@@ -1,10 +1,10 @@
 //! The event that a line spells.
 
 ghost use Rattle.std.specs.Prelude.{◌≡◌, IfOk};
-ghost use Rattle.schedule.specs.Events.{adjudication, event_of, event_with, line_event, living_event_of, living_event_with, plain_event, submission};
+ghost use Rattle.schedule.specs.Events.{adjudication, event_of, event_with, line_event, living_event_of, living_event_with, plain_event, submission, terms_change};
 
 use crate::nodes::{node_in, pharmacy_in};
-use crate::plans::plan_change;
+use crate::plans::{plan_change, terms_change};
 use input_text::{PrintedFault, read_decimal, split_word, unprint};
 use octets::Octets;
 use std::alloc::{AllocError, Global};
@@ -24,7 +24,7 @@ pub fn event_of(alloc: Global, line: &[u8]) -> Result<Option<Event>, AllocError>
     }
 }
 
-/// The event that a line spells where payers may ask: an adjudication too.
+/// The event that a line spells for programs that live: an adjudication or a change of terms too.
 #[tactic(auto, unfolding(crate::specs::Events::living_event_of))]
 pub fn living_event_of(alloc: Global, line: &[u8]) -> Result<Option<Event>, AllocError>
     ensures { IfOk result (λ event. event ≡ living_event_of line.now) }
@@ -35,7 +35,7 @@ pub fn living_event_of(alloc: Global, line: &[u8]) -> Result<Option<Event>, Allo
     }
 }
 
-/// The event that a line spells, where payers may ask or may not.
+/// The event that a line spells for programs that live or do not.
 pub(crate) fn line_event(
     alloc: Global,
     living: bool,
@@ -49,12 +49,15 @@ pub(crate) fn line_event(
     event_of(alloc, line)
 }
 
-/// The event of a word and what stands after it, where payers may ask.
+/// The event of a word and what stands after it, for programs that live.
 fn living_event_with(alloc: Global, word: &[u8], rest: &[u8]) -> Result<Option<Event>, AllocError>
     ensures { IfOk result (λ event. event ≡ living_event_with word.now rest.now) }
 {
     if word == b"adjudicate".as_slice() {
         return adjudication(alloc, rest);
+    }
+    if word == b"terms".as_slice() {
+        return Ok(terms_change(rest));
     }
     event_with(alloc, word, rest)
 }

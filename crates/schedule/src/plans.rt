@@ -1,7 +1,7 @@
 //! Changes of plans.
 
 ghost use Rattle.std.specs.Prelude.{◌≡◌, IfOk};
-ghost use Rattle.schedule.specs.Events.{plan_change, price_in, price_of, product_in};
+ghost use Rattle.schedule.specs.Events.{cents_in, plan_change, price_in, price_of, product_in, terms_change};
 
 use crate::nodes::payer_in;
 use input_text::{PrintedFault, read_decimal, split_word, unprint};
@@ -11,6 +11,8 @@ use world_setup::Event;
 
 /// The most digits of a price (own).
 const MOST_DIGITS: usize = 18;
+/// The most digits of a fee and of a copay (own).
+const MOST_CENTS_DIGITS: usize = 10;
 /// The largest number of 32 bits.
 const LARGEST: u64 = 4_294_967_295;
 
@@ -39,6 +41,27 @@ pub(crate) fn plan_change(alloc: Global, rest: &[u8]) -> Result<Option<Event>, A
         })),
         None => Ok(None),
     }
+}
+
+/// The change of a payer, a fee and a copay.
+#[tactic(auto, unfolding(crate::specs::Events::terms_change))]
+pub(crate) fn terms_change(rest: &[u8]) -> Option<Event>
+    ensures { result ≡ terms_change rest.now }
+{
+    let (node, amounts) = split_word(rest)?;
+    let payer = payer_in(node)?;
+    let (first, second) = split_word(amounts)?;
+    let fee = cents_in(first)?;
+    let copay = cents_in(second)?;
+    Some(Event::Terms { payer, fee, copay })
+}
+
+/// The cents that a word of a line spells.
+pub(crate) fn cents_in(word: &[u8]) -> Option<u32>
+    ensures { result ≡ cents_in word.now }
+{
+    let number = read_decimal(word, MOST_CENTS_DIGITS)?;
+    price_of(number)
 }
 
 /// The product that a word of a line spells: printed bytes, at least one.
@@ -73,7 +96,7 @@ pub fn price_in(word: &[u8]) -> Option<Option<u32>>
     }
 }
 
-/// A price that fits.
+/// A number that fits.
 fn price_of(number: u64) -> Option<u32>
     ensures { result ≡ price_of number }
 {

@@ -27,8 +27,8 @@ pub fn read_schedule(alloc: Global, text: &[u8]) -> Result<Vec<Event>, ScheduleF
     read_events(alloc, false, text)
 }
 
-/// The same where payers may ask, for programs that live: a line may also be `adjudicate 3 ADVICE`, where ADVICE is printed
-/// bytes to the end of the line.
+/// The same for programs that live: a line may also be `adjudicate 3 ADVICE`, where ADVICE is printed bytes to the end of the
+/// line, or `terms pr1 FEE COPAY`, where FEE and COPAY are cents of 1 to 10 digits and of 32 bits.
 ///
 /// # Errors
 /// Those of `read_schedule`.
@@ -39,7 +39,7 @@ pub fn read_living_schedule(alloc: Global, text: &[u8]) -> Result<Vec<Event>, Sc
     read_events(alloc, true, text)
 }
 
-/// The events of the lines of a schedule, in order, where payers may ask or may not.
+/// The events of the lines of a schedule, in order, for programs that live or do not.
 fn read_events(alloc: Global, living: bool, text: &[u8]) -> Result<Vec<Event>, ScheduleFault>
     ensures read { IfOk result (λ events. events_by living (lines text.now) ≡ Ok events.items) }
     ensures refused { IfErr result (λ fault. RefusedFor fault (events_by living (lines text.now))) }

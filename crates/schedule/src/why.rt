@@ -8,7 +8,7 @@ use crate::commands::command_of;
 use crate::events::{event_of, living_event_of};
 use crate::link_faults::fault_of;
 use crate::nodes::{node_in, payer_in, pharmacy_in};
-use crate::plans::product_in;
+use crate::plans::{cents_in, product_in};
 use input_text::{PrintedFault, read_decimal, split_word, unprint};
 use std::alloc::{AllocError, Global};
 use thiserror::Error;
@@ -23,8 +23,8 @@ pub enum LineFault {
     /// The first word is none of a replay's.
     #[error("a line is submit ph1 TEXT, tick ph1, deliver 3, stop sw1, start sw1 or plan pr1 PRODUCT PRICE, with one space between words")]
     EventWord,
-    /// The first word is none of a replay's whose payers may ask.
-    #[error("a line is submit ph1 TEXT, tick ph1, deliver 3, adjudicate 3 ADVICE, stop sw1, start sw1 or plan pr1 PRODUCT PRICE, with one space between words")]
+    /// The first word is none of a replay's for programs that live.
+    #[error("a line is submit ph1 TEXT, tick ph1, deliver 3, adjudicate 3 ADVICE, stop sw1, start sw1, plan pr1 PRODUCT PRICE or terms pr1 FEE COPAY, with one space between words")]
     LivingEventWord,
     /// The first word is none of a run's.
     #[error("a line is submit ph1 TEXT, tick ph1, plan pr1 PRODUCT PRICE, restart sw1 or await ph1 3, with one space between words, and before all of these fault ph1 sw1 ACTIONS")]
@@ -59,6 +59,12 @@ pub enum LineFault {
     /// There is no price.
     #[error("a price is wanted: 1 to 18 digits, at most 4294967295, or none")]
     Price,
+    /// There is no fee.
+    #[error("a fee is wanted: 1 to 10 digits, at most 4294967295")]
+    Fee,
+    /// There is no copay.
+    #[error("a copay is wanted: 1 to 10 digits, at most 4294967295")]
+    Copay,
     /// There are no actions.
     #[error("actions are wanted: deliver, lose, twice and hold, joined by commas")]
     Actions,
@@ -77,7 +83,7 @@ pub fn event_fault(alloc: Global, line: &[u8]) -> Result<Option<LineFault>, Allo
     }
 }
 
-/// What is wrong in a line of a replay whose payers may ask; `None` exactly where it spells an event.
+/// What is wrong in a line of a replay for programs that live; `None` exactly where it spells an event.
 pub fn living_event_fault(alloc: Global, line: &[u8]) -> Result<Option<LineFault>, AllocError>
     ensures { IfOk result (λ fault. is_none fault ≡ is_some (living_event_of line.now)) }
 {
@@ -113,11 +119,14 @@ fn event_cause(alloc: Global, line: &[u8]) -> Result<LineFault, AllocError> {
     }
 }
 
-/// What is wrong in a line that spells no event where payers may ask.
+/// What is wrong in a line that spells no event for programs that live.
 fn living_cause(alloc: Global, line: &[u8]) -> Result<LineFault, AllocError> {
     if let Some((word, rest)) = split_word(line) {
         if word == b"adjudicate".as_slice() {
             return advice_cause(alloc, rest);
+        }
+        if word == b"terms".as_slice() {
+            return Ok(terms_cause(rest));
         }
     }
     match event_cause(alloc, line)? {
@@ -198,6 +207,27 @@ fn plan_cause(alloc: Global, rest: &[u8]) -> Result<LineFault, AllocError> {
     match product_in(alloc, product)? {
         Some(_) => Ok(LineFault::Price),
         None => Ok(LineFault::Product),
+    }
+}
+
+/// What is wrong after `terms`.
+fn terms_cause(rest: &[u8]) -> LineFault {
+    let Some((node, rest)) = split_word(rest) else {
+        return match payer_in(rest) {
+            Some(_) => LineFault::Fee,
+            None => LineFault::Payer,
+        };
+    };
+    if payer_in(node).is_none() {
+        return LineFault::Payer;
+    }
+    let fee = match split_word(rest) {
+        Some((fee, _)) => fee,
+        None => rest,
+    };
+    match cents_in(fee) {
+        Some(_) => LineFault::Copay,
+        None => LineFault::Fee,
     }
 }
 

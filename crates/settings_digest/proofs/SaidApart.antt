@@ -6,8 +6,8 @@ use Rattle.claim_model.specs.Journal.{PharmacySettings}
 use Rattle.claim_model.specs.Settings.{PayerSettings}
 use Rattle.world_settings.specs.Document.{Document}
 use Rattle.kept_logs.specs.Fields.{text_of}
-use Rattle.settings_digest.specs.Said.{number_text, pharmacy_text, price_text, serial_text, payer_text, key_text, providers_text, route_text, said}
-use Rattle.settings_digest.specs.Fits.{FitsPharmacy, FitsPrice, FitsSerial, FitsPayer, FitsPcn, FitsProviders, FitsRange, FitsRoute, FitsDocument}
+use Rattle.settings_digest.specs.Said.{number_text, pharmacy_text, price_text, serial_text, payer_text, key_text, ended_text, providers_text, route_text, said}
+use Rattle.settings_digest.specs.Fits.{FitsPharmacy, FitsPrice, FitsSerial, FitsPayer, FitsPcn, FitsProviders, FitsRange, FitsLast, FitsRoute, FitsDocument}
 use Rattle.settings_digest.proofs.Apart.{Apart, number_apart, text_apart, both, by_parts, listed}
 
 abbrev PharmacyParts : Type 0
@@ -133,12 +133,50 @@ key_tells x y r s u v h =
 key_apart : Apart {A = Key} FitsKey (λ k. key_text k.0 k.1)
 key_apart = record { tells = key_tells }
 
-abbrev route_of : List ℕ × (Key × ℕ) → Row
-route_of p = record { bin = p.0; pcn = p.1.0.0; providers = p.1.0.1; payer = p.1.1 }
+-- a key, after the last number that stays rejected, where the route leads to no payer
+abbrev Ended : Type 0
+Ended = Option ℕ × Key
+
+abbrev FitsEnded : Ended → Type 0
+FitsEnded e = FitsLast e.0 × FitsKey e.1
+
+abbrev text_ended : Ended → List ℕ
+text_ended e = ended_text e.0 e.1.0 e.1.1
+
+-- 4 and a last number, before a key
+after_four : (last : ℕ) (k : Key) (r : List ℕ) → text_ended (Some last, k) ++ r ≡ number_text 4 ++ (number_text last ++ (key_text k.0 k.1 ++ r))
+after_four last k r =
+    append_assoc (number_text 4) (number_text last ++ key_text k.0 k.1) r ∙ ap (λ (t : List ℕ). number_text 4 ++ t) (append_assoc (number_text last) (key_text k.0 k.1) r)
+
+-- no key begins with 4
+no_four : (k : Key) (r s : List ℕ) → key_text k.0 k.1 ++ r ≡ number_text 4 ++ s → ⊥
+no_four k r s h =
+    let few = few_kinds k in
+    let n = number_apart.tells (kind k) 4 (body k ++ r) s (omega (arith, few)) (omega arith) (sym (key_is k r) ∙ h) in
+    let is : kind k ≡ 4 = n.0 in
+    omega (arith, few, is)
+
+ended_tells : (x y : Ended) (r s : List ℕ) → FitsEnded x → FitsEnded y → text_ended x ++ r ≡ text_ended y ++ s → (x ≡ y) × (r ≡ s)
+ended_tells (None, k) (None, l) r s u v h =
+    let t = key_tells k l r s u.1 v.1 h in
+    (ap (λ (z : Key). (None, z)) t.0, t.1)
+ended_tells (None, k) (Some n, l) r s u v h = absurd (no_four k r (number_text n ++ (key_text l.0 l.1 ++ s)) (h ∙ after_four n l s))
+ended_tells (Some m, k) (None, l) r s u v h = absurd (no_four l s (number_text m ++ (key_text k.0 k.1 ++ r)) (sym h ∙ after_four m k r))
+ended_tells (Some m, k) (Some n, l) r s u v h =
+    let four = number_apart.tells 4 4 (number_text m ++ (key_text k.0 k.1 ++ r)) (number_text n ++ (key_text l.0 l.1 ++ s)) (omega arith) (omega arith) (sym (after_four m k r) ∙ (h ∙ after_four n l s)) in
+    let last = number_apart.tells m n (key_text k.0 k.1 ++ r) (key_text l.0 l.1 ++ s) u.0 v.0 four.1 in
+    let key = key_tells k l r s u.1 v.1 last.1 in
+    (ap (λ (j : ℕ). (Some j, k)) last.0 ∙ ap (λ (z : Key). (Some n, z)) key.0, key.1)
+
+ended_apart : Apart FitsEnded text_ended
+ended_apart = record { tells = ended_tells }
+
+abbrev route_of : List ℕ × (Ended × ℕ) → Row
+route_of p = record { bin = p.0; pcn = p.1.0.1.0; providers = p.1.0.1.1; payer = p.1.1; rejected = p.1.0.0 }
 
 route_apart : Apart FitsRoute route_text
 unfolding route_text
-route_apart = by_parts (λ (r : Row). (r.bin, ((r.pcn, r.providers), r.payer))) route_of (λ r. refl) (both text_apart (both key_apart number_apart))
+route_apart = by_parts (λ (r : Row). (r.bin, ((r.rejected, (r.pcn, r.providers)), r.payer))) route_of (λ r. refl) (both text_apart (both ended_apart number_apart))
 
 abbrev DocumentParts : Type 0
 DocumentParts = List PharmacySettings × (List ℕ × (List PayerSettings × List Row))

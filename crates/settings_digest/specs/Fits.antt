@@ -61,9 +61,14 @@ abbrev pub FitsRange : Option Providers → Type 0
 FitsRange None = ⊤
 FitsRange (Some p) = FitsProviders p
 
+-- of the last number that stays rejected, where a route leads to no payer
+abbrev pub FitsLast : Option ℕ → Type 0
+FitsLast None = ⊤
+FitsLast (Some last) = FitsNumber last
+
 -- of a route
 abbrev pub FitsRoute : Row → Type 0
-FitsRoute r = FitsText r.bin × ((FitsPcn r.pcn × FitsRange r.providers) × FitsNumber r.payer)
+FitsRoute r = FitsText r.bin × ((FitsLast r.rejected × (FitsPcn r.pcn × FitsRange r.providers)) × FitsNumber r.payer)
 
 -- of all settings
 abbrev pub FitsDocument : Document → Type 0

@@ -67,9 +67,14 @@ abbrev pub key_text : Option (List ℕ) → Option Providers → List ℕ
 key_text pcn None = pcn_text pcn
 key_text pcn (Some p) = ranged_text pcn ++ providers_text p
 
--- a route, by its BIN number, its processor control number, its providers and its payer
+-- the same of a route that leads to no payer, after 4 and the last number that stays rejected
+abbrev pub ended_text : Option ℕ → Option (List ℕ) → Option Providers → List ℕ
+ended_text None pcn providers = key_text pcn providers
+ended_text (Some last) pcn providers = number_text 4 ++ (number_text last ++ key_text pcn providers)
+
+-- a route, by its BIN number, the last number that stays rejected, where it leads to no payer, its processor control number, its providers and its payer
 unfoldable pub route_text : Row → List ℕ
-route_text r = text_of r.bin ++ (key_text r.pcn r.providers ++ number_text r.payer)
+route_text r = text_of r.bin ++ (ended_text r.rejected r.pcn r.providers ++ number_text r.payer)
 
 -- what settings say: pharmacies, switches by their caps, payers and routes
 unfoldable pub said : Document → List ℕ

@@ -2,8 +2,8 @@
 
 ghost use Rattle.std.specs.Prelude.{◌≡◌, ◌++◌, OnOk};
 ghost use Rattle.std.specs.Option.{option_map};
-ghost use Rattle.settings_digest.specs.Said.{key_text, pcn_text, providers_text, ranged_text, route_text};
-ghost use Rattle.settings_digest.specs.Fits.{FitsPcn, FitsProviders, FitsRange, FitsRoute};
+ghost use Rattle.settings_digest.specs.Said.{ended_text, key_text, pcn_text, providers_text, ranged_text, route_text};
+ghost use Rattle.settings_digest.specs.Fits.{FitsLast, FitsPcn, FitsProviders, FitsRange, FitsRoute};
 
 use crate::fields::{Say, put_number, put_text};
 use bin_routes::{Providers, RouteRow};
@@ -17,8 +17,29 @@ impl Say for RouteRow {
     #[tactic(auto, unfolding(crate::specs::Said::route_text))]
     fn say(&self, out: &mut Vec<u8>) -> Result<(), AllocError> {
         put_text(out, self.bin())?;
-        put_key(out, self.pcn(), self.providers())?;
+        put_ended(out, self.rejected(), self.pcn(), self.providers())?;
         put_number(out, u64::from(self.payer()))
+    }
+}
+
+/// Puts the last number that stays rejected, where a route leads to no payer, and for whom the route is.
+fn put_ended(
+    out: &mut Vec<u8>,
+    rejected: Option<u64>,
+    pcn: Option<&[u8]>,
+    providers: Option<Providers>,
+) -> Result<(), AllocError>
+    ensures text { OnOk result (out.new.items
+        ≡ out.old.items ++ ended_text rejected (option_map (λ p. p.now) pcn.entry) providers) }
+    ensures fits { OnOk result (FitsLast rejected × (FitsPcn (option_map (λ p. p.now) pcn.entry) × FitsRange providers)) }
+{
+    match rejected {
+        None => put_key(out, pcn, providers),
+        Some(last) => {
+            put_number(out, 4)?;
+            put_number(out, last)?;
+            put_key(out, pcn, providers)
+        }
     }
 }
 

@@ -28,7 +28,7 @@ pub record Document : Type 0 where
 abbrev pub document_keys : List (List ℕ)
 document_keys = codes "again" ∷ codes "tries" ∷ codes "pharmacy" ∷ codes "switch" ∷ codes "payer" ∷ codes "route" ∷ []
 
--- the settings that the values of a table spell; in wide ones payers may ask, and routes may be for some providers alone
+-- the settings that the values of a table spell; in wide ones payers may ask, and routes may be for some providers alone or lead to no payer
 unfoldable pub document_with : Bool → Members → Option Document
 document_with wide table = do
   again ← number_at (codes "again") 4294967295 table

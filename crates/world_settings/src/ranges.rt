@@ -33,7 +33,7 @@ fn names_providers(table: &Table) -> bool
 }
 
 /// Whether a table has a key.
-fn has(table: &Table, key: &str) -> bool
+pub(crate) fn has(table: &Table, key: &str) -> bool
     ensures { result ≡ has key.now (table_view table.now) }
 {
     value_at(table, key).is_some()
@@ -54,7 +54,7 @@ fn named_providers(table: &Table) -> Option<Providers>
 
 /// One provider of a qualifier.
 #[tactic(auto, unfolding(crate::specs::Routes::one_provider))]
-fn one_provider(table: &Table) -> Option<Providers>
+pub(crate) fn one_provider(table: &Table) -> Option<Providers>
     ensures { result ≡ one_provider (table_view table.now) }
 {
     let qualifier = qualifier(table)?;

@@ -46,7 +46,9 @@ pub fn read_settings(alloc: Global, text: &[u8]) -> Result<WorldSettings, Settin
 /// The same of wide settings, for programs that live. At the key `limits` they may state a table of `pharmacies` (at most
 /// 65,535), `switches`, `payers` (at most 4,096 each) and `entries` (at most 16,777,216, which is for every cap), each of
 /// which may be left out, and is then as without the table. A payer may have the key `asks`, which says `claims`, and a
-/// route the keys `qualifier` and `provider`, or `qualifier`, `first` and `last`, of the providers that it is for (own).
+/// route the keys `qualifier` and `provider`, or `qualifier`, `first` and `last`, of the providers that it is for. A route
+/// may have `rejected` in place of `payer`, and then has `pcn`, `qualifier` and `provider`: the requests of this provider up
+/// to the number there stay rejected (own).
 ///
 /// # Errors
 /// `Settings` exactly where the text spells none; `OutOfMemory` may stand in place of any answer.
@@ -129,7 +131,8 @@ fn allowed(limits: Limits, settings: WorldSettings) -> Option<WorldSettings>
     Some(settings)
 }
 
-/// The settings that the values of a table spell; in wide ones payers may ask, and routes may be for some providers alone.
+/// The settings that the values of a table spell; in wide ones payers may ask, and routes may be for some providers alone or
+/// lead to no payer.
 #[tactic(auto, unfolding(crate::specs::Document::document_with))]
 pub(crate) fn document_with(
     alloc: Global,

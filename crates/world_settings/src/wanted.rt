@@ -124,6 +124,14 @@ pub(crate) const LIVING_ROUTE: &[Key] = &[
     Key::AtWill("first", Wanted::Text(15)),
     Key::AtWill("last", Wanted::Text(15)),
 ];
+/// The keys of a route in wide settings whose requests stay rejected.
+pub(crate) const REJECTING_ROUTE: &[Key] = &[
+    Key::Needed("bin", Wanted::Bin),
+    Key::Needed("pcn", Wanted::Pcn),
+    Key::Needed("qualifier", Wanted::Text(2)),
+    Key::Needed("provider", Wanted::Text(15)),
+    Key::Needed("rejected", Wanted::Number(1, i64::MAX)),
+];
 
 impl Key {
     /// Its name.

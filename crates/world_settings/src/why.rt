@@ -4,7 +4,8 @@ use crate::limits::limits_in;
 use crate::ranges::providers_of;
 use crate::settings::document_with;
 use crate::wanted::{
-    Key, LIMITS, LIVING_PAYER, LIVING_ROUTE, LIVING_TOP, PAYER, PHARMACY, ROUTE, SWITCH, TOP,
+    Key, LIMITS, LIVING_PAYER, LIVING_ROUTE, LIVING_TOP, PAYER, PHARMACY, REJECTING_ROUTE, ROUTE,
+    SWITCH, TOP,
 };
 use claim_model::Limits;
 use std::alloc::{AllocError, Global};
@@ -105,9 +106,9 @@ fn document_fault(
     document: &Table,
     reader: Reader,
 ) -> Result<Option<String>, AllocError> {
-    let (top, payer, route) = match reader {
-        Reader::Stated => (TOP, PAYER, ROUTE),
-        Reader::Living => (LIVING_TOP, LIVING_PAYER, LIVING_ROUTE),
+    let (top, payer) = match reader {
+        Reader::Stated => (TOP, PAYER),
+        Reader::Living => (LIVING_TOP, LIVING_PAYER),
     };
     if let Some(told) = table_fault(alloc, "the settings", document, top, Limits::stated())? {
         return Ok(Some(told));
@@ -116,16 +117,14 @@ fn document_fault(
         return Ok(Some(told));
     }
     let limits = limits_in(document).unwrap_or(Limits::stated());
-    let arrays = [
-        ("pharmacy", PHARMACY),
-        ("switch", SWITCH),
-        ("payer", payer),
-        ("route", route),
-    ];
+    let arrays = [("pharmacy", PHARMACY), ("switch", SWITCH), ("payer", payer)];
     for (name, keys) in arrays {
         if let Some(told) = tables_fault(alloc, document, name, keys, limits)? {
             return Ok(Some(told));
         }
+    }
+    if let Some(told) = routes_fault(alloc, document, reader, limits)? {
+        return Ok(Some(told));
     }
     if let Some(told) = providers_fault(alloc, document)? {
         return Ok(Some(told));
@@ -164,6 +163,47 @@ fn tables_fault(
         }
     }
     Ok(None)
+}
+
+/// What is wrong with a key of one of the routes.
+fn routes_fault(
+    alloc: Global,
+    document: &Table,
+    reader: Reader,
+    limits: Limits,
+) -> Result<Option<String>, AllocError> {
+    let Some(list) = document.get("route").and_then(Value::as_array) else {
+        return Ok(None);
+    };
+    for (passed, value) in list.as_slice().iter().enumerate() {
+        if let Some(table) = value.as_table() {
+            if let Some(told) = route_fault(alloc, passed, table, reader, limits)? {
+                return Ok(Some(told));
+            }
+        }
+    }
+    Ok(None)
+}
+
+/// What is wrong with a key of the route at one place: one that leads to a payer, or to none.
+fn route_fault(
+    alloc: Global,
+    passed: usize,
+    table: &Table,
+    reader: Reader,
+    limits: Limits,
+) -> Result<Option<String>, AllocError> {
+    let number = passed.saturating_add(1);
+    if reader.is_living() && table.get("rejected").is_some() {
+        let place = format!(in alloc; "[[route]] {number}, which has rejected,")?;
+        return table_fault(alloc, place.as_str(), table, REJECTING_ROUTE, limits);
+    }
+    let place = format!(in alloc; "[[route]] {number}")?;
+    let keys = match reader {
+        Reader::Stated => ROUTE,
+        Reader::Living => LIVING_ROUTE,
+    };
+    table_fault(alloc, place.as_str(), table, keys, limits)
 }
 
 /// What is wrong with the providers of a route, of which each key is as it is wanted.

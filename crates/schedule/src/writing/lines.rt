@@ -35,6 +35,7 @@ pub(super) fn put_event(out: &mut Vec<u8>, event: &Event) -> Result<(), AllocErr
             product,
             price,
         } => put_plan(out, *payer, product.as_slice(), *price)?,
+        Event::Terms { payer, fee, copay } => put_terms(out, *payer, *fee, *copay)?,
         Event::Adjudicate { packet, advice } => {
             put(out, b"adjudicate ")?;
             put_decimal(out, *packet)?;
@@ -68,6 +69,16 @@ fn put_plan(
         }
         None => put(out, b" none"),
     }
+}
+
+/// Appends a change of terms.
+fn put_terms(out: &mut Vec<u8>, payer: u16, fee: u32, copay: u32) -> Result<(), AllocError> {
+    put(out, b"terms ")?;
+    put_node(out, Node::Payer(payer))?;
+    put(out, b" ")?;
+    put_decimal(out, u64::from(fee))?;
+    put(out, b" ")?;
+    put_decimal(out, u64::from(copay))
 }
 
 /// Appends a product in printed bytes, a space as `\x20`.
