@@ -35,8 +35,12 @@ def printed(text: str, size: int) -> str:
 
 
 def route_line(row: dict[str, Any]) -> str:
-    """A row of the routes: its PCN and its providers, each `-` where it is for all."""
+    """A row of the routes: its PCN and its providers, each `-` where it is for all; of one that leads to no payer its provider, and the last of
+    its requests that stay rejected."""
     pcn = printed(row["pcn"], 10) if "pcn" in row else "-"
+    if "rejected" in row:
+        key = [printed(row["bin"], 6), pcn, printed(row["qualifier"], 2), printed(row["provider"], 15)]
+        return " ".join(["rejected", *key, str(row["rejected"])])
     providers = ["-", "-", "-"]
     if "qualifier" in row:
         first, last = (row.get(key, row.get("provider", "")) for key in ("first", "last"))

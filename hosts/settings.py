@@ -61,7 +61,7 @@ class Settings:
             return self._named[int(node[2:]) - 1]
         if node.startswith("pr"):
             return sorted(self._naming)
-        payers = [f"pr{it}" for it in sorted({route["payer"] for route in self.routes()})]
+        payers = [f"pr{it}" for it in sorted({route["payer"] for route in self.routes() if "payer" in route})]
         return payers + self._naming.get(node, [])
 
     @functools.cached_property
@@ -79,7 +79,7 @@ class Settings:
         return naming
 
     def routes(self) -> list[dict[str, Any]]:
-        """The rows of the routes, as the file has them."""
+        """The rows of the routes, as the file has them: some lead to a payer, and some say which requests of a provider stay rejected."""
         rows: list[dict[str, Any]] = self._given.get("route", [])
         return rows
 

@@ -182,6 +182,7 @@ vogrilas_code vogrilas_open(vogrilas_node *node, const void *settings, size_t se
 **     take FROM TEXT         a packet has come from this node
 **     adjudicate FROM ADVICE TEXT    of a payer that asks: the same, with its own system's answer to the request in the packet
 **     plan PRODUCT PRICE     of a payer: another price
+**     terms FEE COPAY        of a payer: another fee and another copay, in cents
 **     stop / start           the node stops, and starts again from what it keeps
 **     answer NUMBER          of a pharmacy: what is known of this entry
 **

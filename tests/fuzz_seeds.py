@@ -98,6 +98,9 @@ def keys(folder: pathlib.Path) -> Iterator[bytes]:
     yield b"\1" + own + request + b"\n" + text + rows + b"1234567899\\x20\\x20\\x20\\x20\\x20 65535\n"
     last = b"route 610455 - 01 1234567890\\x20\\x20\\x20\\x20\\x20 1234567893\\x20\\x20\\x20\\x20\\x20 7\n"
     yield b"\1" + own + request + b"\n" + text.replace(b"route 610455", b"route 999999") + last
+    rejected = b"rejected 610455 A1\\x20\\x20\\x20\\x20\\x20\\x20\\x20\\x20 01 1234567893\\x20\\x20\\x20\\x20\\x20 "
+    yield b"\2" + own + request + b"\n" + text + rejected + b"1\n"
+    yield b"\2" + own + request + b"\n" + text + rejected + b"2\n"
 
 
 def advices() -> Iterator[bytes]:

@@ -247,6 +247,19 @@ def grown(new: bytes, first: tuple[str, ...] = (), old: bytes = SETTINGS) -> str
         )
 
 
+def late(text: str) -> str:
+    """What claimgrow writes for settings with these lines so that all logs go over, and what becomes of these then."""
+    with room() as folder:
+        network = Network(folder, added(text))
+        before, ran = network.octets(), network.grow("--reject", nodes=[it for it in NODES if not it.startswith("sw")])
+        if ran.status or ran.err or network.octets() != before:
+            return f"--reject: status {ran.status}, {network.said(ran)}"
+        network.new += ran.out
+        network.write("new.toml", network.new)
+        rows = [line for line in ran.out.decode().splitlines() if line]
+        return "; ".join([*rows, gone_over(network, before) if network.grow().status == 0 else "not over"])
+
+
 def altered(change, node: str = "ph1") -> str:
     """What becomes of the logs where that of one node is altered, and a cap is larger."""
     with room() as folder:
@@ -307,6 +320,8 @@ def tell(word: str, argument: bytes) -> str:
     if word == "from":
         there, _, then = text.partition(" => ")
         return grown(added(then), old=added(there))
+    if word == "late":
+        return late(text)
     if word == "early":
         pharmacy, _, route = text.partition(" => ")
         return early(pharmacy, route)

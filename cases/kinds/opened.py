@@ -3,7 +3,7 @@ import os
 import struct
 
 from suite.case import Case, Group, rows_apart
-from suite.logs import DROP, STOP, TICK, Call, Log, Sent, head_of, head_of_file, text, write_log
+from suite.logs import DROP, STOP, TERMS, TICK, Call, Log, Sent, head_of, head_of_file, text, write_log
 from suite.nodes import room
 from suite.programs import run
 from suite.rows import read_rows
@@ -24,14 +24,14 @@ MOST_SETTINGS = 1 << 24
 RECORD = 33
 
 
-def start(octets: bytes, settings: bytes = SETTINGS, *words: str) -> str:
-    """What a start of pharmacy 1 from these bytes says, and how many bytes the file has behind it."""
+def start(octets: bytes, settings: bytes = SETTINGS, *words: str, node: str = "ph1") -> str:
+    """What a start of pharmacy 1, or of another node, from these bytes says, and how many bytes the file has behind it."""
     with room() as folder:
-        paths = f"{folder}/settings.toml", f"{folder}/ph1.log"
+        paths = f"{folder}/settings.toml", f"{folder}/{node}.log"
         for path, given in zip(paths, (settings, octets)):
             with open(path, "wb") as file:
                 file.write(given)
-        ran = run("claimnode", paths[0], "ph1", paths[1], *words, given=b"")
+        ran = run("claimnode", paths[0], node, paths[1], *words, given=b"")
         with open(paths[1], "rb") as file:
             left = file.read()
     if ran.status == 0:
@@ -62,6 +62,29 @@ def went_on(head: bytes, settings: bytes) -> str:
     if left != (before if ran.status else after):
         return "another log"
     return ran.err.decode().strip().removeprefix("claimnode: ") if ran.status else " ".join(ran.out.decode().split())
+
+
+def payer_log(*calls: Call) -> bytes:
+    """The log of payer 1 that has these calls."""
+    return write_log(Log(head_of("pr1", SETTINGS), calls))
+
+
+def terms(fee: int, copay: int) -> Call:
+    """The call to have another fee and another copay."""
+    return Call(TERMS, struct.pack(">II", fee, copay), ())
+
+
+def kept_terms(fee: int, copay: int) -> str:
+    """What payer 1 says to other terms, where its log then has that call alone, and behind it at a start from there."""
+    with room() as folder:
+        paths = f"{folder}/settings.toml", f"{folder}/pr1.log"
+        with open(paths[0], "wb") as file:
+            file.write(SETTINGS)
+        ran = run("claimnode", paths[0], "pr1", paths[1], given=b"terms %d %d\n" % (fee, copay))
+        with open(paths[1], "rb") as file:
+            left = file.read()
+        again = run("claimnode", paths[0], "pr1", paths[1], given=b"")
+    return " ".join((ran.out + again.out).decode().split()) if left == payer_log(terms(fee, copay)) else "another log"
 
 
 def beside(octets: bytes, starts: int) -> str:
@@ -140,6 +163,12 @@ def tell(word: str, argument: bytes) -> str:
         return went_on(HEADS[word], edited(argument.decode()))
     if word == "sums-of-other":
         return start(under_other_head(argument.decode()))
+    if word == "payer-kept":
+        return kept_terms(*map(int, argument.split()))
+    if word == "payer-terms":
+        return start(payer_log(terms(*map(int, argument.split()))), node="pr1")
+    if word == "payer-call":
+        return start(payer_log(Call(argument[0], argument[1:], ())), node="pr1")
     if word == "words":
         return str(run("claimnode", *argument.decode().split(" "), "/dev/null", "ph1", "/dev/null", given=b"").status)
     count = int(argument or b"0")
@@ -167,6 +196,8 @@ def tell(word: str, argument: bytes) -> str:
         return start(ticks(*[other if at == count else QUIET for at in range(1, TICKS + 1)]))
     if word == "at-least":
         return start(whole, SETTINGS, "--at-least", str(count))
+    if word == "terms":
+        return start(ticks(*[terms(300, 500) if at == count else QUIET for at in range(1, TICKS + 1)]))
     if word == "beside":
         return beside(whole[:count], 1)
     if word == "beside-twice":

@@ -1,4 +1,5 @@
-"""Wide settings, whose payers may ask and whose routes may be for some providers, and schedules in which packets are taken with an advice."""
+"""Wide settings, whose payers may ask and whose routes may be for some providers or lead to no payer, and schedules in which packets are taken
+with an advice and terms change."""
 import re
 
 from kinds.limits import said
@@ -111,8 +112,8 @@ def tampered(given: bytes, old: bytes, new: bytes) -> str:
 
 
 def drawn(given: bytes, text: str) -> str:
-    """How often a text stands in the picture of a day."""
-    ran = run("claimpicture", "all", given=given)
+    """How often a text stands in the picture of a day; or what claimpicture says of it."""
+    ran = run("claimpicture", "all", given=given, env=EXPLAINED)
     return said(ran, "claimpicture") if ran.status else str(ran.out.decode("latin-1").count(text))
 
 

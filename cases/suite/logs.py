@@ -11,6 +11,8 @@ KINDS = ("ph", "sw", "pr")
 SUBMIT, TICK, TAKE, STOP, START, DROP, PRICE = range(7)
 # The taking of a packet with an advice.
 ADVISED = 8
+# Another fee and another copay.
+TERMS = 9
 # What stands before a call of which something was noted.
 NOTED = 7
 
@@ -104,6 +106,8 @@ def read_call(body: bytes) -> Call:
         advice, at = read_text(body, at)
     if kind == PRICE:
         at += 4
+    if kind == TERMS:
+        at += 8
     rest, count, sent = body[1:at], struct.unpack(">Q", body[at : at + 8])[0], []
     at += 8
     for _ in range(count):

@@ -39,9 +39,11 @@ def payer_said(payer: dict) -> bytes:
 
 
 def route_said(route: dict) -> bytes:
+    rejected = number(4) + number(route["rejected"]) if "rejected" in route else b""
     kind = ("pcn" in route) + 2 * ("qualifier" in route)
     pcn = text(route["pcn"].encode()) if "pcn" in route else b""
-    return text(route["bin"].encode()) + number(kind) + pcn + providers_said(route) + number(route["payer"])
+    said = text(route["bin"].encode()) + rejected + number(kind) + pcn + providers_said(route)
+    return said + number(route.get("payer", 0))
 
 
 def providers_said(route: dict) -> bytes:

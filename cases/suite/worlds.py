@@ -27,6 +27,7 @@ class Settings:
         self.routes = {
             (route["bin"], None if "pcn" not in route else route["pcn"].ljust(10)): route["payer"]
             for route in table["route"]
+            if "payer" in route
         }
 
     def route(self, request) -> int | None:

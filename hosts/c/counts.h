@@ -10,7 +10,7 @@ struct bytes;
 /* Why a message is not handed to the node. */
 enum why { NOT_A_PACKET, HELD_BACK, FULL, NO_INBOX, WOULD_BE_FULL, UNDER_WAY, RULES_FULL, UNSIGNED, FORGED, WRONG_PAYER, REROUTED, WHYS };
 
-enum call { CALL_SUBMIT, CALL_ANSWER, CALL_TAKE, CALL_ADJUDICATE, CALL_TICK, CALL_PLAN, CALL_STOP, CALL_START, CALL_OTHER, CALLS };
+enum call { CALL_SUBMIT, CALL_ANSWER, CALL_TAKE, CALL_ADJUDICATE, CALL_TICK, CALL_PLAN, CALL_TERMS, CALL_STOP, CALL_START, CALL_OTHER, CALLS };
 
 void counts_call(const char *line, size_t size);
 void counts_refusal(const char *name, size_t size);

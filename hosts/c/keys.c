@@ -81,9 +81,11 @@ static bool take_words(struct ring *ring, char *const word[MOST_WORDS], int coun
         snprintf(known->node, sizeof known->node, "%s", word[1]);
         return read_digits(word[2], known->key, sizeof known->key);
     }
-    if (count != 7 || strcmp(word[0], "route") != 0) return false;
+    bool is_rejected = count == 6 && strcmp(word[0], "rejected") == 0;
+    if (!is_rejected && (count != 7 || strcmp(word[0], "route") != 0)) return false;
     ring->route = grown(ring->route, ring->routes, sizeof *ring->route);
-    return route_of_words(word + 1, &ring->route[ring->routes++]);
+    struct route *route = &ring->route[ring->routes++];
+    return is_rejected ? rejected_of_words(word + 1, route) : route_of_words(word + 1, route);
 }
 
 static bool take_line(struct ring *ring, char *line) {
@@ -270,6 +272,6 @@ bool keys_hold(const struct keys *keys, const char *text, const char *node, cons
     return false;
 }
 
-unsigned keys_route(const struct keys *keys, const unsigned char *request, size_t size) {
-    return route_of(keys->ring.route, keys->ring.routes, request, size);
+unsigned keys_route(const struct keys *keys, uint64_t number, const unsigned char *request, size_t size) {
+    return route_of(keys->ring.route, keys->ring.routes, number, request, size);
 }

@@ -27,6 +27,13 @@ static bool read_payer(const char *word, unsigned *payer) {
     return size > 0 && word[size] == '\0' && *payer >= 1 && *payer <= 65535;
 }
 
+/* Reads the number of a request, from 1: digits alone, and no more than it may have. */
+static bool read_number(const char *word, uint64_t *number) {
+    size_t size = strspn(word, "0123456789");
+    *number = size <= 19 ? strtoull(word, NULL, 10) : 0;
+    return size > 0 && word[size] == '\0' && *number >= 1;
+}
+
 bool route_of_words(char *const word[6], struct route *route) {
     *route = (struct route){ .has_pcn = !is_none(word[1]), .has_providers = !is_none(word[2]) };
     if (!read_payer(word[5], &route->payer) || !read_text(word[0], route->bin, sizeof route->bin)) return false;
@@ -36,11 +43,22 @@ bool route_of_words(char *const word[6], struct route *route) {
            read_text(word[4], route->last, sizeof route->last);
 }
 
-/* The order in which the rows of one BIN are looked up: those of a PCN before those of none, and of both those of some providers first. */
+bool rejected_of_words(char *const word[5], struct route *route) {
+    *route = (struct route){ .has_pcn = true, .has_providers = true };
+    if (!read_number(word[4], &route->rejected) || !read_text(word[0], route->bin, sizeof route->bin)) return false;
+    if (!read_text(word[1], route->pcn, sizeof route->pcn) || !read_text(word[2], route->qualifier, sizeof route->qualifier)) return false;
+    return read_text(word[3], route->first, sizeof route->first) && read_text(word[3], route->last, sizeof route->last);
+}
+
+/*
+** The order in which the rows of one BIN are looked up: those that lead to no payer first, then those of a PCN before those of none, and of both
+** those of some providers first.
+*/
 static int order(const void *one, const void *other) {
     const struct route *a = one, *b = other;
     int bins = memcmp(a->bin, b->bin, sizeof a->bin);
     if (bins != 0) return bins;
+    if ((a->rejected > 0) != (b->rejected > 0)) return a->rejected > 0 ? -1 : 1;
     if (a->has_pcn != b->has_pcn) return a->has_pcn ? -1 : 1;
     return a->has_providers == b->has_providers ? 0 : a->has_providers ? -1 : 1;
 }
@@ -58,7 +76,12 @@ static bool is_for(const struct route *route, const unsigned char *request) {
            memcmp(route->first, provider, sizeof route->first) <= 0 && memcmp(provider, route->last, sizeof route->last) <= 0;
 }
 
-unsigned route_of(const struct route *route, size_t count, const unsigned char *request, size_t size) {
+/* Whether a row says where a request of this number goes: all do, but those of requests that stay rejected, which end at one. */
+static bool is_up_to(const struct route *route, uint64_t number) {
+    return route->rejected == 0 || number <= route->rejected;
+}
+
+unsigned route_of(const struct route *route, size_t count, uint64_t number, const unsigned char *request, size_t size) {
     size_t low = 0, high = count;
     if (size < REQUEST_HEADER) return 0;
     while (low < high) {
@@ -67,7 +90,7 @@ unsigned route_of(const struct route *route, size_t count, const unsigned char *
         else high = middle;
     }
     for (; low < count && memcmp(route[low].bin, request, sizeof route->bin) == 0; low++)
-        if (is_for(&route[low], request)) return route[low].payer;
+        if (is_for(&route[low], request) && is_up_to(&route[low], number)) return route[low].payer;
     return 0;
 }
 

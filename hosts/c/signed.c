@@ -65,7 +65,7 @@ static enum why fault_of_request(const struct host *host, const struct message *
     if (!holds(host, one, pharmacy)) return FORGED;
     if (!is_payer) return WHYS;
     size_t size = payload_of(one, &request);
-    snprintf(payer, sizeof payer, "pr%u", keys_route(host->keys, request, size) % 100000);
+    snprintf(payer, sizeof payer, "pr%u", keys_route(host->keys, head->number, request, size) % 100000);
     return strcmp(payer, host->given.name) == 0 ? WHYS : WRONG_PAYER;
 }
 
@@ -78,7 +78,7 @@ static enum why fault_of_answer(struct host *host, const struct message *one, co
     snprintf(own, sizeof own, "ph%u", head->pharmacy);
     if (strcmp(own, host->given.name) != 0) return FORGED;
     if (vogrilas_request(&host->node.node, head->number, request, sizeof request, &request_size) != VOGRILAS_OK) return FORGED;
-    unsigned route = keys_route(host->keys, request, request_size);
+    unsigned route = keys_route(host->keys, head->number, request, request_size);
     snprintf(payer, sizeof payer, "pr%u", route % 100000);
     if (!holds(host, one, route == 0 ? sender : payer)) return FORGED;
     size_t size = payload_of(one, &answer);
@@ -117,9 +117,11 @@ void signed_refuse(const struct host *host, const struct message *one) {
 /* Has the payer of a request give its answer anew: the request goes to it once more, as what came of it a while ago, or of another repeat. */
 static void ask_anew(struct host *host, const struct message *one) {
     const unsigned char *request;
+    struct head head;
     char payer[9];
+    if (!head_of(natsMsg_GetData(one->text), (size_t)natsMsg_GetDataLength(one->text), &head)) return;
     size_t size = payload_of(one, &request);
-    unsigned route = keys_route(host->keys, request, size);
+    unsigned route = keys_route(host->keys, head.number, request, size);
     if (route == 0) return;
     snprintf(payer, sizeof payer, "pr%u", route % 100000);
     counts_asked_anew();

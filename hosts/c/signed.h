@@ -19,19 +19,25 @@
 /* A request, or an answer, in an envelope. */
 #define MOST_PAYLOAD 32768
 
-/* A row of the routes: of claims of this BIN and PCN, where it has one, and of these providers, where it is for some alone, to a payer. */
+/*
+** A row of the routes: of claims of this BIN and PCN, where it has one, and of these providers, where it is for some alone, to a payer. Or a row
+** that leads to no payer, number 0: the requests of one provider up to a number, under a BIN and a PCN, stay rejected.
+*/
 struct route {
     unsigned char bin[6], pcn[10], qualifier[2], first[15], last[15];
     bool has_pcn, has_providers;
     unsigned payer;
+    uint64_t rejected;
 };
 
-/* Reads a row's words: false where they are none. */
+/* Reads the words of a row that leads to a payer: false where they are none. */
 bool route_of_words(char *const word[6], struct route *route);
+/* The same of a row that leads to none. */
+bool rejected_of_words(char *const word[5], struct route *route);
 /* Has the rows in the order in which they are looked up. */
 void routes_sort(struct route *route, size_t count);
-/* The payer to which a request goes by the rows, as by those of a switch; 0 where none leads anywhere. */
-unsigned route_of(const struct route *route, size_t count, const unsigned char *request, size_t size);
+/* The payer to which a request of this number goes by the rows, as by those of a switch; 0 where none leads anywhere. */
+unsigned route_of(const struct route *route, size_t count, uint64_t number, const unsigned char *request, size_t size);
 /* Whether an answer is the one that a switch gives to this request where there is no route for it. */
 bool is_rejection(const unsigned char *request, size_t request_size, const unsigned char *answer, size_t size);
 
@@ -47,8 +53,8 @@ void keys_close(struct keys *keys);
 bool keys_sign(const struct keys *keys, const char *packet, size_t size, char text[SIGNED_TEXT]);
 /* Whether a signature is one of this node over a packet in printed bytes. */
 bool keys_hold(const struct keys *keys, const char *text, const char *node, const char *packet, size_t size);
-/* The payer to which a request in bytes goes, or 0. */
-unsigned keys_route(const struct keys *keys, const unsigned char *request, size_t size);
+/* The payer to which a request of this number, in bytes, goes, or 0. */
+unsigned keys_route(const struct keys *keys, uint64_t number, const unsigned char *request, size_t size);
 
 /* The signature beside a packet, or NULL. */
 const char *signed_text(natsMsg *packet);

@@ -72,8 +72,8 @@ static void add_advised(struct bytes *line, struct body *body) {
 
 /* Adds the line of a call, of this kind and under this name, where it has one. */
 static void add_call(struct bytes *line, uint64_t kind, const struct bytes *name, struct body *body) {
-    static const char *const word[] = { "submit ", "tick", "take ", "stop", "start", "plan ", "plan ", NULL, "adjudicate " };
-    enum { SUBMIT = 0, TAKE = 2, DROP = 5, PRICE = 6, ADJUDICATE = 8 };
+    static const char *const word[] = { "submit ", "tick", "take ", "stop", "start", "plan ", "plan ", NULL, "adjudicate ", "terms" };
+    enum { SUBMIT = 0, TAKE = 2, DROP = 5, PRICE = 6, ADJUDICATE = 8, TERMS = 9 };
     if (kind >= sizeof word / sizeof *word || word[kind] == NULL) return;
     if (name->size > 0) add_form(line, "submit-as %s ", name->at);
     else add_text(line, word[kind]);
@@ -82,6 +82,7 @@ static void add_call(struct bytes *line, uint64_t kind, const struct bytes *name
     if (kind == SUBMIT || kind == TAKE || kind == DROP || kind == PRICE) add_taken(line, body);
     if (kind == DROP) add_text(line, " none");
     if (kind == PRICE) add_form(line, " %llu", (unsigned long long)take_number(body, 4));
+    for (int amounts = 0; kind == TERMS && amounts < 2; amounts++) add_form(line, " %llu", (unsigned long long)take_number(body, 4));
 }
 
 /* Makes the call of a body, with what was noted of it. */

@@ -6,8 +6,8 @@
 
 #include "../../hosts/c/keys.c"
 
-/* A payer's row that fits a request: the first by the order of PCN and providers, of all of this BIN. */
-static unsigned looked_up(const struct route *route, size_t count, const unsigned char *request, size_t size) {
+/* A payer's row that fits a request: the first by the order of PCN and providers, of all of this BIN; none where it stays rejected. */
+static unsigned looked_up(const struct route *route, size_t count, uint64_t number, const unsigned char *request, size_t size) {
     unsigned best = 0;
     int rank = 4;
     for (size_t at = 0; size >= 56 && at < count; at++) {
@@ -16,7 +16,8 @@ static unsigned looked_up(const struct route *route, size_t count, const unsigne
         if (route[at].has_providers)
             is_one = is_one && memcmp(route[at].qualifier, request + 21, 2) == 0 && memcmp(route[at].first, request + 23, 15) <= 0 &&
                      memcmp(route[at].last, request + 23, 15) >= 0;
-        if (is_one && own < rank) rank = own, best = route[at].payer;
+        if (is_one && route[at].rejected >= number && route[at].rejected > 0) return 0;
+        if (is_one && route[at].rejected == 0 && own < rank) rank = own, best = route[at].payer;
     }
     return best;
 }
@@ -36,7 +37,7 @@ static struct bytes text_of_ring(const struct ring *ring) {
     }
     for (size_t at = 0; at < ring->routes; at++) {
         const struct route *route = &ring->route[at];
-        add_text(&text, "\nroute ");
+        add_text(&text, route->rejected > 0 ? "\nrejected " : "\nroute ");
         add_printed(&text, route->bin, 6);
         add_text(&text, route->has_pcn ? " " : " -");
         if (route->has_pcn) add_printed(&text, route->pcn, 10);
@@ -45,18 +46,19 @@ static struct bytes text_of_ring(const struct ring *ring) {
             add_printed(&text, route->qualifier, 2);
             add_text(&text, " ");
             add_printed(&text, route->first, 15);
-            add_text(&text, " ");
-            add_printed(&text, route->last, 15);
+            if (route->rejected == 0) add_text(&text, " ");
+            if (route->rejected == 0) add_printed(&text, route->last, 15);
         } else {
             add_text(&text, "- - -");
         }
-        add_form(&text, " %u", route->payer);
+        if (route->rejected > 0) add_form(&text, " %llu", (unsigned long long)route->rejected);
+        else add_form(&text, " %u", route->payer);
     }
     add_text(&text, "\n");
     return text;
 }
 
-/* What the lines of a file say: how many are rows or keys, each row with a payer that is a number as one writes it. */
+/* What the lines of a file say: how many are rows or keys, each row with a payer or a last number that is one as one writes it. */
 static size_t lines_in(const struct bytes *text) {
     struct input left = { (const unsigned char *)text->at, text->size };
     size_t count = 0;
@@ -69,6 +71,10 @@ static size_t lines_in(const struct bytes *text) {
         if (line.at[0] != '#' && strncmp(word, "route ", 6) == 0) {
             size_t digits = strspn(last, "0123456789");
             expect(digits > 0 && digits <= 5 && (last[digits] == '\0' || last[digits] == ' ') && atoi(last) >= 1 && atoi(last) <= 65535);
+        }
+        if (line.at[0] != '#' && strncmp(word, "rejected ", 9) == 0) {
+            size_t digits = strspn(last, "0123456789");
+            expect(digits > 0 && digits <= 19 && (last[digits] == '\0' || last[digits] == ' ') && strspn(last, "0") < digits);
         }
         free(line.at);
     }
@@ -115,8 +121,8 @@ void tried(struct input *input) {
         expect(read_keys(&keys, &again, &fault));
         struct bytes told_again = text_of_ring(&again);
         expect(told.size == told_again.size);
-        expect(keys_route(&(struct keys){ .ring = ring }, (const unsigned char *)last.at, last.size) ==
-               looked_up(ring.route, ring.routes, (const unsigned char *)last.at, last.size));
+        expect(keys_route(&(struct keys){ .ring = ring }, how, (const unsigned char *)last.at, last.size) ==
+               looked_up(ring.route, ring.routes, how, (const unsigned char *)last.at, last.size));
         ring_free(&again);
         free(told.at);
         free(told_again.at);

@@ -104,6 +104,11 @@ impl FileNode {
         self.turn(|node| node.serve(format!("plan {text} {price}").as_bytes()))
     }
 
+    /// Another fee and another copay, in cents. Of a payer.
+    pub fn terms(&mut self, fee: u32, copay: u32) -> Result<Said, FileError> {
+        self.turn(|node| node.serve(format!("terms {fee} {copay}").as_bytes()))
+    }
+
     /// The node stops: it refuses calls until it starts.
     pub fn stop(&mut self) -> Result<Said, FileError> {
         self.turn(|node| node.serve(b"stop"))

@@ -93,7 +93,7 @@ fn addressee(world: &World, event: &Event) -> Node {
         }
         Event::Stop(node) => *node,
         Event::Start(node) => *node,
-        Event::Plan { payer, .. } => Node::Payer(*payer),
+        Event::Plan { payer, .. } | Event::Terms { payer, .. } => Node::Payer(*payer),
     }
 }
 
@@ -109,6 +109,10 @@ fn call_of(world: &World, event: &Event) -> Result<Option<Call>, AllocError> {
         Event::Stop(_) => Ok(Some(Call::Stop)),
         Event::Start(_) => Ok(Some(Call::Start)),
         Event::Plan { product, price, .. } => plan(product, *price),
+        Event::Terms { fee, copay, .. } => Ok(Some(Call::Terms {
+            fee: *fee,
+            copay: *copay,
+        })),
         Event::Adjudicate { packet, advice } => match packet_of(world, *packet) {
             Some(packet) => adjudicating(packet.from, &packet.bytes, advice),
             None => Ok(None),
@@ -133,7 +137,7 @@ fn adjudicating(from: Node, bytes: &Octets, advice: &Octets) -> Result<Option<Ca
     }))
 }
 
-/// A change of a plan.
+/// A change of a price.
 fn plan(product: &Octets, price: Option<u32>) -> Result<Option<Call>, AllocError> {
     let product = product.copy()?;
     Ok(Some(Call::Plan { product, price }))

@@ -8,7 +8,7 @@ use thiserror::Error;
 #[derive(Debug, Drop, Error)]
 pub(crate) enum Finding {
     /// The words are wrong.
-    #[error("usage: claimgrow [--check] OLD NEW LOG...")]
+    #[error("usage: claimgrow [--check | --reject] OLD NEW LOG...")]
     Usage,
     /// The old settings have not grown to the new ones.
     #[error("{0}")]
@@ -25,6 +25,9 @@ pub(crate) enum Finding {
     /// The log of this name begins with another rest than its node left after the one before it.
     #[error("{0}: {1}")]
     Rest(String, RestFault),
+    /// The request of this number of the pharmacy of this log has a text that no settings spell.
+    #[error("{0}: entry {1} has a text that no settings spell")]
+    Unspelled(String, u64),
     /// Some log does not go over.
     #[error("no log was changed, since not all go over")]
     SomeStay,

@@ -8,14 +8,17 @@ ghost use Rattle.settings_digest.specs.Digests.{AreOf};
 mod copies;
 mod finding;
 mod locked;
+mod rejecting;
 mod telling;
 mod words;
 
 use crate::copies::put_in_place;
 use crate::finding::Finding;
 use crate::locked::{Locked, lock_all};
+use crate::rejecting::{Unspelled, put_rows};
 use crate::telling::{Stays, hint_for, put_line};
 use crate::words::{Words, words_of};
+use bin_routes::RouteKey;
 use command_line::{End, given_words, read_settings_file};
 use log_growth::{Gone, Grown, GrowthFault, OverFault, go_over, grows, rerouted};
 use log_turning::{WholeFault, whole_log};
@@ -45,6 +48,9 @@ fn run(rt: &HostRuntime) -> Result<(), Ungone> {
     let new = read_settings_file(rt, words.new)?;
     let grown = check_growth(alloc, old.as_slice(), new.as_slice())?;
     let locked = lock_all(rt, words.logs.as_slice())?;
+    if words.reject {
+        return write_rows(rt, &words, &grown, old.as_slice(), new.as_slice());
+    }
     let gone = judge(rt, &words, &grown, old.as_slice(), new.as_slice())?;
     if !words.check {
         for (log, gone) in locked.iter().zip(gone.as_slice()) {
@@ -110,14 +116,65 @@ fn judge(
     }
 }
 
+/// Writes the rows by which what switches rejected stays rejected, of all logs, where each goes over but for that.
+fn write_rows(
+    rt: &HostRuntime,
+    words: &Words<'_>,
+    grown: &Grown,
+    old: &[u8],
+    new: &[u8],
+) -> Result<(), Ungone>
+    requires old { AreOf old.now grown.now.old }
+    requires new { AreOf new.now grown.now.new }
+{
+    let alloc = rt.alloc();
+    let mut rows = Vec::new(alloc);
+    for name in &words.logs {
+        let bytes = read_log(rt, old, new, name)?;
+        match becomes_of(alloc, grown, new, bytes.as_slice()) {
+            Ok(_) => {}
+            Err(Stays::Rerouted(_, entries)) => add_rows(
+                alloc,
+                &mut rows,
+                name,
+                entries.as_slice(),
+            )?,
+            Err(Stays::Fault(OverFault::OutOfMemory)) => return Err(End::OutOfMemory),
+            Err(stays) => {
+                let mut line = Vec::new(alloc);
+                put_line(alloc, &mut line, name, &Err(stays), "")?;
+                rt.stderr().write_all(line.as_slice())?;
+                return Err(End::Own(Finding::SomeStay));
+            }
+        }
+    }
+    write_out(rt, rows.as_slice())
+}
+
+/// Adds the rows of the log of this name.
+fn add_rows(
+    alloc: Global,
+    rows: &mut Vec<u8>,
+    name: &str,
+    entries: &[(u64, RouteKey)],
+) -> Result<(), Ungone> {
+    match put_rows(alloc, rows, entries)? {
+        Ok(()) => Ok(()),
+        Err(Unspelled(entry)) => match String::from_str(alloc, name) {
+            Ok(name) => Err(End::Own(Finding::Unspelled(name, entry))),
+            Err(_) => Err(End::OutOfMemory),
+        },
+    }
+}
+
 /// What becomes of a log, or why it stays: also for what its pharmacy has heard of a switch that keeps no log.
 fn becomes_of(alloc: Global, grown: &Grown, new: &[u8], bytes: &[u8]) -> Result<Gone, Stays>
     requires { AreOf new.now grown.now.new }
 {
     match go_over(alloc, &grown.old, &grown.new, new, bytes) {
         Ok(Gone::Over(node, written)) => match rerouted(alloc, new, node, written.as_slice()) {
-            Ok(None) => Ok(Gone::Over(node, written)),
-            Ok(Some(entry)) => Err(Stays::Rerouted(node, entry)),
+            Ok(entries) if entries.is_empty() => Ok(Gone::Over(node, written)),
+            Ok(entries) => Err(Stays::Rerouted(node, entries)),
             Err(fault) => Err(Stays::Fault(fault)),
         },
         Ok(gone) => Ok(gone),

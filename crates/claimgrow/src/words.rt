@@ -11,6 +11,8 @@ use std::alloc::Global;
 pub(crate) struct Words<'a> {
     /// Whether nothing is written.
     pub(crate) check: bool,
+    /// Whether the rows are written by which what was rejected stays so, and no log.
+    pub(crate) reject: bool,
     /// The file of the settings that the logs are of.
     pub(crate) old: &'a str,
     /// The file of the settings that they are to be of.
@@ -25,6 +27,13 @@ pub(crate) fn words_of<'a>(alloc: Global, given: &'a [String]) -> Result<Words<'
         .long("check")
         .action(ArgAction::SetTrue)
         .help("tells of each log whether it goes over, and writes none");
+    let reject = Arg::new(alloc, "reject")
+        .long("reject")
+        .action(ArgAction::SetTrue)
+        .conflicts_with("check")?
+        .help(
+            "writes the rows of NEW by which requests that switches rejected, and that have a route now, stay rejected; and no log",
+        );
     let logs = Arg::new(alloc, "LOG")
         .required(true)
         .action(ArgAction::Append)
@@ -36,6 +45,7 @@ pub(crate) fn words_of<'a>(alloc: Global, given: &'a [String]) -> Result<Words<'
             "Takes the logs of nodes over to settings that theirs have grown to: more nodes and routes, larger caps.",
         )
         .arg(check)?
+        .arg(reject)?
         .arg(settings(alloc, "OLD", "the settings of the logs, a TOML file"))?
         .arg(settings(alloc, "NEW", "the settings that they have grown to"))?
         .arg(logs)?;
@@ -47,6 +57,7 @@ pub(crate) fn words_of<'a>(alloc: Global, given: &'a [String]) -> Result<Words<'
     ) {
         (Some(old), Some(new), Some(logs)) => Ok(Words {
             check: matches.get_flag("check"),
+            reject: matches.get_flag("reject"),
             old,
             new,
             logs: Vec::from_slice(alloc, logs)?,

@@ -7,7 +7,7 @@ use Rattle.claim_model.specs.Rows.{Book}
 
 -- one BIN leads to payer 1, whatever the processor control number
 abbrev pub route_rows : List Row
-route_rows = record { bin = codes "610455"; pcn = None; providers = None; payer = 1 } ∷ []
+route_rows = record { bin = codes "610455"; pcn = None; providers = None; payer = 1; rejected = None } ∷ []
 
 abbrev pub sample_routes : RouteMaps
 sample_routes = routes_of route_rows

@@ -2,6 +2,7 @@
 use Rattle.std.specs.Prelude.{◌≡◌, ⊤, ℕ, zero, suc, ◌+◌, ◌++◌, List, [], ◌∷◌, codes, Option, Some, None, Ok, Err, ◌≢◌}
 use Rattle.std.specs.List.{flat_map}
 use Rattle.bin_routes.specs.Table.{RouteMaps}
+use Rattle.claim_model.specs.Words.{SetPrice, SetTerms}
 use Rattle.claim_model.specs.Bytes.{bytes_with}
 use Rattle.claim_model.specs.Context.{Context}
 use Rattle.claim_model.specs.Node.{Node, Call, Submit, Tick, Take, Stop, Start, Reprice, Adjudicate}
@@ -23,7 +24,8 @@ call_word Tick = codes "tick"
 call_word (Take from bytes) = codes "packet"
 call_word Stop = codes "stop"
 call_word Start = codes "start"
-call_word (Reprice change) = codes "price"
+call_word (Reprice (SetPrice product price)) = codes "price"
+call_word (Reprice (SetTerms fee copay)) = codes "terms"
 call_word (Adjudicate from bytes advice) = codes "packet"
 
 -- how many submissions a call is

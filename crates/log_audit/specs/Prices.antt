@@ -1,6 +1,7 @@
 -- The price changes of payers, each as a row: what a product cost before, and what it costs then.
 use Rattle.std.specs.Prelude.{ℕ, ◌+◌, ◌-◌, ◌==◌, ◌&&◌, cond, List, [], ◌∷◌, ◌++◌, slice_get, bytes_eq, codes, Option, Some, None}
 use Rattle.std.specs.List.{flat_map}
+use Rattle.claim_model.specs.Words.{SetPrice, SetTerms}
 use Rattle.claim_model.specs.Logs.{Logged, NodeLog}
 use Rattle.claim_model.specs.Node.{Node, Pharmacy, Switch, Payer, Call, Submit, Tick, Take, Stop, Start, Reprice, Adjudicate}
 use Rattle.claim_model.specs.World.{Event, Submission, Ticking, Delivery, Stopping, Starting, PlanChange, Adjudication}
@@ -31,7 +32,8 @@ event_change number (Delivery packet) = []
 event_change number (Stopping node) = []
 event_change number (Starting node) = []
 event_change number (Adjudication packet advice) = []
-event_change number (PlanChange payer change) = record { payer = payer; place = number; product = product; price = price } ∷ []
+event_change number (PlanChange payer (SetPrice product price)) = record { payer = payer; place = number; product = product; price = price } ∷ []
+event_change number (PlanChange payer (SetTerms fee copay)) = []
 
 -- those of events that are numbered from here on
 abbrev pub event_changes : ℕ → List Event → List Change
@@ -46,7 +48,8 @@ call_change payer number (Take from bytes) = []
 call_change payer number Stop = []
 call_change payer number Start = []
 call_change payer number (Adjudicate from bytes advice) = []
-call_change payer number (Reprice change) = record { payer = payer; place = number; product = product; price = price } ∷ []
+call_change payer number (Reprice (SetPrice product price)) = record { payer = payer; place = number; product = product; price = price } ∷ []
+call_change payer number (Reprice (SetTerms fee copay)) = []
 
 abbrev pub call_changes : ℕ → ℕ → List Logged → List Change
 call_changes payer number [] = []

@@ -50,6 +50,7 @@ impl Ages {
             Call::Stop => Ok(()),
             Call::Start => Ok(()),
             Call::Plan { .. } => Ok(()),
+            Call::Terms { .. } => Ok(()),
             Call::Adjudicate { .. } => Ok(()),
         }
     }

@@ -142,6 +142,7 @@ fn submissions_in(call: &Call) -> u64
         | Call::Stop
         | Call::Start
         | Call::Plan { .. }
+        | Call::Terms { .. }
         | Call::Adjudicate { .. } => 0,
     }
 }
@@ -206,6 +207,7 @@ fn call_word(call: &Call) -> &'static [u8]
         Call::Stop => b"stop",
         Call::Start => b"start",
         Call::Plan { .. } => b"price",
+        Call::Terms { .. } => b"terms",
     }
 }
 
@@ -216,9 +218,12 @@ fn sender_field<'a>(call: &Call) -> Field<'a>
     match call {
         Call::Take { from, .. } => node_field(b"from", *from),
         Call::Adjudicate { from, .. } => node_field(b"from", *from),
-        Call::Submit(_) | Call::Tick | Call::Stop | Call::Start | Call::Plan { .. } => {
-            Field::number_or_nothing(b"from", None)
-        }
+        Call::Submit(_)
+        | Call::Tick
+        | Call::Stop
+        | Call::Start
+        | Call::Plan { .. }
+        | Call::Terms { .. } => { Field::number_or_nothing(b"from", None) }
     }
 }
 
@@ -235,7 +240,7 @@ fn load_of(node: Node, submissions: u64, call: &Call) -> Carried
         },
         Call::Take { bytes, .. } => carried_in(bytes.as_slice()),
         Call::Adjudicate { bytes, .. } => carried_in(bytes.as_slice()),
-        Call::Tick | Call::Stop | Call::Start | Call::Plan { .. } => Carried {
+        Call::Tick | Call::Stop | Call::Start | Call::Plan { .. } | Call::Terms { .. } => Carried {
             kind: b"",
             pharmacy: None,
             number: None,

@@ -88,6 +88,7 @@ fn push_event<'a>(
         Event::Deliver { .. } => Ok(()),
         Event::Stop(_) => Ok(()),
         Event::Start(_) => Ok(()),
+        Event::Terms { .. } => Ok(()),
         Event::Adjudicate { .. } => Ok(()),
     }
 }
@@ -165,6 +166,7 @@ fn push_call<'a>(
         Call::Take { .. } => Ok(()),
         Call::Stop => Ok(()),
         Call::Start => Ok(()),
+        Call::Terms { .. } => Ok(()),
         Call::Adjudicate { .. } => Ok(()),
     }
 }

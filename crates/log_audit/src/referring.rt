@@ -243,6 +243,7 @@ fn is_submission(call: &Call) -> bool
         | Call::Stop
         | Call::Start
         | Call::Plan { .. }
+        | Call::Terms { .. }
         | Call::Adjudicate { .. } => false,
     }
 }

@@ -129,6 +129,7 @@ fn waits(lines: &[Progress<'_>], node: Node, call: &Call) -> bool
         Call::Stop => false,
         Call::Start => false,
         Call::Plan { .. } => false,
+        Call::Terms { .. } => false,
     }
 }
 
@@ -220,6 +221,7 @@ fn put_reason(
         Call::Stop => put_no_event(line),
         Call::Start => put_no_event(line),
         Call::Plan { .. } => put_no_event(line),
+        Call::Terms { .. } => put_no_event(line),
     }
 }
 

@@ -98,7 +98,12 @@ impl<'a> Walk<'a> {
 fn taken_by(call: &Call) -> Option<(Node, &Octets)> {
     match call {
         Call::Take { from, bytes } | Call::Adjudicate { from, bytes, .. } => Some((*from, bytes)),
-        Call::Submit(_) | Call::Tick | Call::Stop | Call::Start | Call::Plan { .. } => None,
+        Call::Submit(_)
+        | Call::Tick
+        | Call::Stop
+        | Call::Start
+        | Call::Plan { .. }
+        | Call::Terms { .. } => None,
     }
 }
 

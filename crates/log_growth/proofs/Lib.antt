@@ -3,6 +3,7 @@ mod NodesGrown
 mod TableRows
 mod RangedRows
 mod RoutesGrown
+mod RejectedRows
 mod GrownTo
 mod Moved
 mod Staying

@@ -12,10 +12,9 @@ use Rattle.std.proofs.lemmas.Bool.{and_parts}
 use Rattle.bin_routes.specs.Key.{RouteKey}
 use Rattle.bin_routes.specs.Providers.{Providers, is_up_to, have, overlap, meet, has_provider}
 use Rattle.bin_routes.specs.Row.{Row, filled, filled_row, same_pcn, same_key}
-use Rattle.bin_routes.specs.Fault.{row_fault, is_taken, fault_behind}
 use Rattle.bin_routes.specs.Table.{is_ranged, fits, ranged_payer}
 use Rattle.claim_model.proofs.Tests.{bytes_same, bytes_self}
-use Rattle.log_growth.proofs.TableRows.{Found, In, clash, first_none, free_of, in_last, key_same, same_pcns}
+use Rattle.log_growth.proofs.TableRows.{Apart, Found, In, clash, free_of, in_last, key_same, same_pcns}
 
 -- ---- rows for some providers
 
@@ -161,17 +160,13 @@ same_keys x y pcn key f g =
     (ap (λ (z : Option (List ℕ)). same_pcn z (option_map filled y.pcn)) (f.same ∙ sym g.same) ∙ pcn_self (option_map filled y.pcn)))
     (meeting x.providers y.providers key.qualifier key.provider f.has g.has)
 
-pub alike : (payers : ℕ) (earlier rows : List Row) (x y : Row) (pcn : Option (List ℕ)) (key : RouteKey) → fault_behind payers earlier rows ≡ None → In x rows → In y rows → Fitting pcn key x → Fitting pcn key y → x ≡ y
-alike payers earlier [] x y pcn key none i j f g = absurd i
-alike payers earlier (z ∷ rows) x y pcn key none (inl p) (inl q) f g = sym p ∙ q
-alike payers earlier (z ∷ rows) x y pcn key none (inl p) (inr j) f g =
-    let here = first_none (row_fault payers (length earlier) z (is_taken earlier z)) (fault_behind payers (earlier ++ z ∷ []) rows) none in
+pub alike : (earlier rows : List Row) (x y : Row) (pcn : Option (List ℕ)) (key : RouteKey) → Apart earlier rows → In x rows → In y rows → Fitting pcn key x → Fitting pcn key y → x ≡ y
+alike earlier [] x y pcn key none i j f g = absurd i
+alike earlier (z ∷ rows) x y pcn key none (inl p) (inl q) f g = sym p ∙ q
+alike earlier (z ∷ rows) x y pcn key none (inl p) (inr j) f g =
     clash (x ≡ y) (same_key (filled_row y) (filled_row x)) (same_keys y x pcn key g f)
-    (free_of payers (earlier ++ z ∷ []) rows y x here.1 j (subst (λ (w : Row). In w (earlier ++ z ∷ [])) p (in_last z earlier)))
-alike payers earlier (z ∷ rows) x y pcn key none (inr i) (inl q) f g =
-    let here = first_none (row_fault payers (length earlier) z (is_taken earlier z)) (fault_behind payers (earlier ++ z ∷ []) rows) none in
+    (free_of (earlier ++ z ∷ []) rows y x none.1 j (subst (λ (w : Row). In w (earlier ++ z ∷ [])) p (in_last z earlier)))
+alike earlier (z ∷ rows) x y pcn key none (inr i) (inl q) f g =
     clash (x ≡ y) (same_key (filled_row x) (filled_row y)) (same_keys x y pcn key f g)
-    (free_of payers (earlier ++ z ∷ []) rows x y here.1 i (subst (λ (w : Row). In w (earlier ++ z ∷ [])) q (in_last z earlier)))
-alike payers earlier (z ∷ rows) x y pcn key none (inr i) (inr j) f g =
-    let here = first_none (row_fault payers (length earlier) z (is_taken earlier z)) (fault_behind payers (earlier ++ z ∷ []) rows) none in
-    alike payers (earlier ++ z ∷ []) rows x y pcn key here.1 i j f g
+    (free_of (earlier ++ z ∷ []) rows x y none.1 i (subst (λ (w : Row). In w (earlier ++ z ∷ [])) q (in_last z earlier)))
+alike earlier (z ∷ rows) x y pcn key none (inr i) (inr j) f g = alike (earlier ++ z ∷ []) rows x y pcn key none.1 i j f g

@@ -1,5 +1,5 @@
 -- Rows of a table without a fault: which are there, and which are found under a key.
-use Rattle.std.proofs.Common.{◌≡◌, ◌⊎◌, ℕ, ◌+◌, Bool, true, false, not, ◌&&◌, ◌||◌, ◌==◌, cond, List, [], ◌∷◌, ◌++◌, map, length, Option, Some, None, is_none, is_some, inl, inr, refl, sym, ap, ◌∙◌, subst}
+use Rattle.std.proofs.Common.{◌≡◌, ◌⊎◌, ℕ, ◌+◌, Bool, true, false, not, ◌&&◌, ◌||◌, ◌==◌, cond, List, [], ◌∷◌, ◌++◌, map, length, Option, Some, None, is_none, is_some, inl, inr, refl, sym, ap, ◌∙◌, subst, append-nil}
 use Rattle.std.specs.Prelude.{⊤, bytes_eq}
 use Rattle.std.specs.Option.{option_or, option_map}
 use Rattle.std.specs.List.{list_any, filter_map, cons_option, position_from}
@@ -7,16 +7,17 @@ use Rattle.std.specs.Ordering.{nat_cmp, eq_by_cmp}
 use Rattle.std.specs.Cmp.{IsTotalOrder, both_tied}
 use Rattle.std.specs.Cmp.Lexicographic.{slice_cmp, texts_ties, nat_list_cmp_total}
 use Rattle.std.proofs.lemmas.Cmp.{then_total, on_total}
+use Rattle.std.proofs.lemmas.List.Elements.{filter-append}
 use Rattle.std.specs.FinMap.{find}
 use Rattle.std.proofs.lemmas.Bool.{and_parts}
 use Rattle.bin_routes.specs.declared.fault.RoutesFault.{RoutesFault}
 use Rattle.bin_routes.specs.declared.fault.RoutesFault.TheVariants.{SameRow}
 use Rattle.bin_routes.specs.Providers.{Providers, have, meet}
-use Rattle.bin_routes.specs.Row.{Row, filled, filled_row, same_pcn, same_key}
-use Rattle.bin_routes.specs.Fault.{text_fault, row_fault, is_taken, fault_behind}
-use Rattle.bin_routes.specs.Table.{bin_cmp, processor_cmp, exact_entry, other_entry}
+use Rattle.bin_routes.specs.Row.{Row, leads, leading, filled, filled_row, same_pcn, same_key}
+use Rattle.bin_routes.specs.Fault.{text_fault, row_fault, is_among, is_taken, fault_behind}
+use Rattle.bin_routes.specs.Table.{bin_cmp, processor_cmp, exact_entry, other_entry, rejected_key, rejected_entry}
 use Rattle.claim_model.proofs.Tests.{bytes_same, bytes_self, nat_same}
-use Rattle.log_growth.specs.Compared.{same_ranges, same_row}
+use Rattle.log_growth.specs.Compared.{same_ranges, same_number, same_row}
 
 -- a row is one of these
 abbrev pub In : Row → List Row → Type 0
@@ -83,17 +84,26 @@ same_ranges_same (Some a) (Some b) e =
     ap (λ (x : List ℕ). Some (range x b.first b.last)) (sym (bytes_same a.qualifier b.qualifier q.0))
     ∙ (ap (λ (x : List ℕ). Some (range a.qualifier x b.last)) (sym (bytes_same a.first b.first f.0)) ∙ ap (λ (x : List ℕ). Some (range a.qualifier a.first x)) (sym (bytes_same a.last b.last f.1)))
 
-abbrev pub row : List ℕ → Option (List ℕ) → Option Providers → ℕ → Row
-row bin pcn providers payer = record { bin = bin; pcn = pcn; providers = providers; payer = payer }
+pub same_numbers : (a b : Option ℕ) → same_number a b ≡ true → b ≡ a
+same_numbers None None e = refl
+same_numbers None (Some b) e = absurd cc
+same_numbers (Some a) None e = absurd cc
+same_numbers (Some a) (Some b) e = ap (λ (n : ℕ). Some n) (sym (nat_same a b e))
+
+abbrev pub row : List ℕ → Option (List ℕ) → Option Providers → ℕ → Option ℕ → Row
+row bin pcn providers payer rejected = record { bin = bin; pcn = pcn; providers = providers; payer = payer; rejected = rejected }
 
 pub same_rows : (a b : Row) → same_row a b ≡ true → b ≡ a
 same_rows a b e =
     let k = and_parts (bytes_eq a.bin b.bin && same_pcn a.pcn b.pcn) _ e in
     let p = and_parts (bytes_eq a.bin b.bin) (same_pcn a.pcn b.pcn) k.0 in
-    let n = and_parts (same_ranges a.providers b.providers) (a.payer == b.payer) k.1 in
-    ap (λ (x : List ℕ). row x b.pcn b.providers b.payer) (sym (bytes_same a.bin b.bin p.0))
-    ∙ (ap (λ (x : Option (List ℕ)). row a.bin x b.providers b.payer) (same_pcns a.pcn b.pcn p.1)
-    ∙ (ap (λ (x : Option Providers). row a.bin a.pcn x b.payer) (same_ranges_same a.providers b.providers n.0) ∙ ap (λ (x : ℕ). row a.bin a.pcn a.providers x) (sym (nat_same a.payer b.payer n.1))))
+    let n = and_parts (same_ranges a.providers b.providers) _ k.1 in
+    let m = and_parts (a.payer == b.payer) (same_number a.rejected b.rejected) n.1 in
+    ap (λ (x : List ℕ). row x b.pcn b.providers b.payer b.rejected) (sym (bytes_same a.bin b.bin p.0))
+    ∙ (ap (λ (x : Option (List ℕ)). row a.bin x b.providers b.payer b.rejected) (same_pcns a.pcn b.pcn p.1)
+    ∙ (ap (λ (x : Option Providers). row a.bin a.pcn x b.payer b.rejected) (same_ranges_same a.providers b.providers n.0)
+    ∙ (ap (λ (x : ℕ). row a.bin a.pcn a.providers x b.rejected) (sym (nat_same a.payer b.payer m.0))
+    ∙ ap (λ (x : Option ℕ). row a.bin a.pcn a.providers a.payer x) (same_numbers a.rejected b.rejected m.1))))
 
 pub among_by : (r x : Row) (xs : List Row) (t : Bool) → (list_any (same_row r) xs ≡ true → In r xs) → same_row r x ≡ t → (t || list_any (same_row r) xs) ≡ true → In r (x ∷ xs)
 among_by r x xs true later is all = inl (same_rows r x is)
@@ -118,15 +128,51 @@ not_taken None false place e = refl
 not_taken None true place e = absurd cc
 not_taken (Some f) same place e = absurd cc
 
-pub free_of : (payers : ℕ) (earlier rows : List Row) (r e : Row) → fault_behind payers earlier rows ≡ None → In r rows → In e earlier → same_key (filled_row r) (filled_row e) ≡ false
-free_of payers earlier [] r e none i j = absurd i
-free_of payers earlier (x ∷ rows) r e none (inl same) j =
+-- each row has a key that none before it has
+abbrev pub Apart : List Row → List Row → Type 0
+Apart earlier [] = ⊤
+Apart earlier (x ∷ rows) = (list_any (same_key (filled_row x)) (map filled_row earlier) ≡ false) × Apart (earlier ++ x ∷ []) rows
+
+apart_by : (payers : ℕ) (earlier rows : List Row) (x : Row) (b : Bool) → leads x ≡ b → is_taken earlier x ≡ false → Apart (leading (earlier ++ x ∷ [])) (leading rows) → Apart (leading earlier) (cond b (x ∷ leading rows) (leading rows))
+apart_by payers earlier rows x true is free later = (
+  sym (ap (λ (t : Bool). cond t (list_any (same_key (filled_row x)) (map filled_row (leading earlier))) (is_among (filter_map rejected_entry (map filled_row earlier)) (rejected_key (filled_row x)))) is) ∙ free,
+  subst (λ (xs : List Row). Apart xs (leading rows)) (filter-append leads earlier (x ∷ []) ∙ ap (λ (t : Bool). leading earlier ++ cond t (x ∷ []) []) is) later,
+)
+apart_by payers earlier rows x false is free later =
+    subst (λ (xs : List Row). Apart xs (leading rows)) (filter-append leads earlier (x ∷ []) ∙ (ap (λ (t : Bool). leading earlier ++ cond t (x ∷ []) []) is ∙ append-nil (leading earlier))) later
+
+-- so it is of the rows of a table without a fault that lead to payers
+pub leading_apart : (payers : ℕ) (earlier rows : List Row) → fault_behind payers earlier rows ≡ None → Apart (leading earlier) (leading rows)
+leading_apart payers earlier [] none = tt
+leading_apart payers earlier (x ∷ rows) none =
     let here = first_none (row_fault payers (length earlier) x (is_taken earlier x)) (fault_behind payers (earlier ++ x ∷ []) rows) none in
-    let taken : is_taken earlier x ≡ false = not_taken (text_fault payers (length earlier) x) (is_taken earlier x) (length earlier) here.0 in
-    subst (λ (z : Row). same_key (filled_row z) (filled_row e) ≡ false) same (none_filled (same_key (filled_row x)) earlier e taken j)
-free_of payers earlier (x ∷ rows) r e none (inr i) j =
-    let here = first_none (row_fault payers (length earlier) x (is_taken earlier x)) (fault_behind payers (earlier ++ x ∷ []) rows) none in
-    free_of payers (earlier ++ x ∷ []) rows r e here.1 i (in_more e earlier (x ∷ []) j)
+    apart_by payers earlier rows x (leads x) refl (not_taken (text_fault payers (length earlier) x) (is_taken earlier x) (length earlier) here.0) (leading_apart payers (earlier ++ x ∷ []) rows here.1)
+
+pub free_of : (earlier rows : List Row) (r e : Row) → Apart earlier rows → In r rows → In e earlier → same_key (filled_row r) (filled_row e) ≡ false
+free_of earlier [] r e none i j = absurd i
+free_of earlier (x ∷ rows) r e none (inl same) j = subst (λ (z : Row). same_key (filled_row z) (filled_row e) ≡ false) same (none_filled (same_key (filled_row x)) earlier e none.0 j)
+free_of earlier (x ∷ rows) r e none (inr i) j = free_of (earlier ++ x ∷ []) rows r e none.1 i (in_more e earlier (x ∷ []) j)
+
+-- ---- rows that lead to payers
+
+from_leading_by : (r x : Row) (b : Bool) (xs : List Row) → leads x ≡ b → (In r (leading xs) → In r xs × (leads r ≡ true)) → In r (cond b (x ∷ leading xs) (leading xs)) → In r (x ∷ xs) × (leads r ≡ true)
+from_leading_by r x true xs is later (inl same) = (inl same, ap leads (sym same) ∙ is)
+from_leading_by r x true xs is later (inr i) = (inr (later i).0, (later i).1)
+from_leading_by r x false xs is later i = (inr (later i).0, (later i).1)
+
+pub from_leading : (r : Row) (xs : List Row) → In r (leading xs) → In r xs × (leads r ≡ true)
+from_leading r [] i = absurd i
+from_leading r (x ∷ xs) i = from_leading_by r x (leads x) xs refl (from_leading r xs) i
+
+to_leading_by : (r x : Row) (b : Bool) (xs : List Row) → leads x ≡ b → leads r ≡ true → (x ≡ r) ⊎ In r (leading xs) → In r (cond b (x ∷ leading xs) (leading xs))
+to_leading_by r x true xs is lead i = i
+to_leading_by r x false xs is lead (inl same) = let wrong : false ≡ true = sym is ∙ (ap leads same ∙ lead) in absurd cc
+to_leading_by r x false xs is lead (inr i) = i
+
+pub to_leading : (r : Row) (xs : List Row) → In r xs → leads r ≡ true → In r (leading xs)
+to_leading r [] i lead = absurd i
+to_leading r (x ∷ xs) (inl same) lead = to_leading_by r x (leads x) xs refl lead (inl same)
+to_leading r (x ∷ xs) (inr i) lead = to_leading_by r x (leads x) xs refl lead (inr (to_leading r xs i lead))
 
 -- ---- rows for all providers
 
@@ -182,13 +228,12 @@ pub free_by : (x : Row) (o : Option Providers) (ps : List Row) → x.providers �
 free_by x None ps is own later = (λ r i. own r i is, later)
 free_by x (Some p) ps is own later = later
 
-pub free_plain : (payers : ℕ) (earlier rows : List Row) → fault_behind payers earlier rows ≡ None → Free (plain rows)
-free_plain payers earlier [] none = tt
-free_plain payers earlier (x ∷ rows) none =
-    let here = first_none (row_fault payers (length earlier) x (is_taken earlier x)) (fault_behind payers (earlier ++ x ∷ []) rows) none in
+pub free_plain : (earlier rows : List Row) → Apart earlier rows → Free (plain rows)
+free_plain earlier [] none = tt
+free_plain earlier (x ∷ rows) none =
     free_by x x.providers (plain rows) refl
-    (λ r i xn. let f = from_plain r rows i in plain_free r x f.1 xn (free_of payers (earlier ++ x ∷ []) rows r x here.1 f.0 (in_last x earlier)))
-    (free_plain payers (earlier ++ x ∷ []) rows here.1)
+    (λ r i xn. let f = from_plain r rows i in plain_free r x f.1 xn (free_of (earlier ++ x ∷ []) rows r x none.1 f.0 (in_last x earlier)))
+    (free_plain (earlier ++ x ∷ []) rows none.1)
 
 -- ---- a row of BIN and processor control number
 

@@ -4,7 +4,7 @@ use mathlib.Core.Bool.{beq}
 use Rattle.std.specs.List.{list_any, position_from}
 use Rattle.std.specs.Option.{option_or, option_map}
 use Rattle.bin_routes.specs.Providers.{Providers, have}
-use Rattle.bin_routes.specs.Row.{Row, same_pcn}
+use Rattle.bin_routes.specs.Row.{Row, leads, same_pcn}
 use Rattle.bin_routes.specs.Table.{routes_of, is_ranged}
 use Rattle.claim_model.specs.Context.{Context}
 use Rattle.claim_model.specs.Bytes.{bytes_with}
@@ -66,9 +66,16 @@ same_ranges None (Some b) = false
 same_ranges (Some a) None = false
 same_ranges (Some a) (Some b) = same_range a b
 
+-- the same number, or none
+abbrev pub same_number : Option ℕ → Option ℕ → Bool
+same_number None None = true
+same_number None (Some b) = false
+same_number (Some a) None = false
+same_number (Some a) (Some b) = a == b
+
 -- the same row
 abbrev pub same_row : Row → Row → Bool
-same_row a b = (bytes_eq a.bin b.bin && same_pcn a.pcn b.pcn) && (same_ranges a.providers b.providers && (a.payer == b.payer))
+same_row a b = (bytes_eq a.bin b.bin && same_pcn a.pcn b.pcn) && (same_ranges a.providers b.providers && ((a.payer == b.payer) && same_number a.rejected b.rejected))
 
 -- a row for all providers that names a processor control number takes claims from one of its BIN alone, which leads to another payer
 abbrev pub takes_by : Option (List ℕ) → Option (List ℕ) → Row → Row → Bool
@@ -83,9 +90,9 @@ takes_from a b = is_none a.providers && takes_by a.pcn b.pcn a b
 abbrev pub takes_claims : List Row → Row → Bool
 takes_claims old row = not (list_any (same_row row) old) && list_any (takes_from row) old
 
--- a row for some providers that is none of these
+-- a row that leads to a payer, for some providers, that is none of these
 abbrev pub is_new_range : List Row → Row → Bool
-is_new_range old row = is_ranged row && not (list_any (same_row row) old)
+is_new_range old row = leads row && (is_ranged row && not (list_any (same_row row) old))
 
 -- two rows have the same BIN
 abbrev pub has_bin : Row → Row → Bool
@@ -106,12 +113,28 @@ is_in_row row p = is_in_ranges row.providers p
 abbrev pub takes_range : List PharmacySettings → List Row → Row → Bool
 takes_range pharmacies old row = is_new_range old row && (list_any (has_bin row) old && list_any (is_in_row row) pharmacies)
 
--- the first row that is not there any more, and else the first new row that takes claims from an old one, and else the first for some providers that does
+-- a row is for this processor control number, or for all
+abbrev pub is_for : Option (List ℕ) → Option (List ℕ) → Bool
+is_for pcn None = true
+is_for None (Some other) = false
+is_for (Some pcn) (Some other) = bytes_eq pcn other
+
+-- it leads to a payer, has the BIN number of a row, and is for its processor control number
+abbrev pub covers : Row → Row → Bool
+covers row other = leads other && (has_bin row other && is_for row.pcn other.pcn)
+
+-- a row that lets requests stay rejected and is none of the old ones: an old one led to a payer for some of its BIN and processor control number
+abbrev pub rejects_routed : List Row → Row → Bool
+rejects_routed old row = not (leads row) && (not (list_any (same_row row) old) && list_any (covers row) old)
+
+-- the first row that is not there any more, and else the first new row that takes claims from an old one, and else the first for some providers that
+-- does, and else the first that lets requests stay rejected which may have had a route
 abbrev pub route_ungrown : List PharmacySettings → List Row → List Row → Option Ungrown
 route_ungrown pharmacies old new =
     option_or (option_map ungrown.RouteGone (position_from (λ (row : Row). not (list_any (same_row row) new)) 0 old))
     (option_or (option_map ungrown.RouteTaken (position_from (λ (row : Row). takes_claims old row) 0 new))
-    (option_map ungrown.RangeTaken (position_from (λ (row : Row). takes_range pharmacies old row) 0 new)))
+    (option_or (option_map ungrown.RangeTaken (position_from (λ (row : Row). takes_range pharmacies old row) 0 new))
+    (option_map ungrown.RouteRejected (position_from (λ (row : Row). rejects_routed old row) 0 new))))
 
 -- the first thing that has not grown
 abbrev pub first_ungrown : Opened → Opened → Option Ungrown

@@ -6,7 +6,7 @@ ghost use Rattle.log_growth.specs.Compared.{HasGrownTo, first_ungrown, node_ungr
 
 use crate::payers::first_payer;
 use crate::pharmacies::first_pharmacy;
-use crate::rows::{first_gone, first_range, first_taking};
+use crate::rows::{first_gone, first_range, first_rejecting, first_taking};
 use crate::switches::first_switch;
 use crate::ungrown::Ungrown;
 use bin_routes::RouteRow;
@@ -14,22 +14,24 @@ use pharmacy_journal::PharmacySettings;
 use world_setup::{CheckedSettings, WorldSettings};
 
 /// The first thing of these settings that has not grown to what it is in the new ones; where there is none, the new ones
-/// have grown from these. The new ones are such as a world takes.
+/// have grown from these. Both are such as a world takes.
 ///
 /// Of nodes the answer is exact. Of routes it is on the safe side: a new route of BIN and processor control number under an
 /// old one of the BIN alone has to lead to the same payer. A new route for some providers may have another payer than they
-/// had where no old pharmacy is one of them.
-pub(crate) fn first_ungrown(old: &WorldSettings, new: &CheckedSettings) -> Option<Ungrown>
+/// had where no old pharmacy is one of them. A new row that lets requests stay rejected has to be for a BIN and processor
+/// control number of which no request had a route.
+pub(crate) fn first_ungrown(old: &CheckedSettings, new: &CheckedSettings) -> Option<Ungrown>
     ensures first { result ≡ first_ungrown old.now new.now }
     ensures grows { result ≡ None → HasGrownTo old.now new.now }
 {
+    let earlier = old.settings();
     let later = new.settings();
-    if let Some(found) = first_node(old, later) {
+    if let Some(found) = first_node(earlier, later) {
         return Some(found);
     }
     match first_route(
-        old.pharmacies.as_slice(),
-        old.routes.as_slice(),
+        earlier.pharmacies.as_slice(),
+        earlier.routes.as_slice(),
         later.routes.as_slice(),
     ) {
         Some(found) => Some(found),
@@ -51,8 +53,11 @@ fn first_route(
     if let Some(place) = first_taking(old, new) {
         return Some(Ungrown::RouteTaken(place));
     }
-    match first_range(pharmacies, old, new) {
-        Some(place) => Some(Ungrown::RangeTaken(place)),
+    if let Some(place) = first_range(pharmacies, old, new) {
+        return Some(Ungrown::RangeTaken(place));
+    }
+    match first_rejecting(old, new) {
+        Some(place) => Some(Ungrown::RouteRejected(place)),
         None => None,
     }
 }

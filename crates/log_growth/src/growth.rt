@@ -69,7 +69,7 @@ pub fn grows(alloc: Global, old: &[u8], new: &[u8]) -> Result<Grown, GrowthFault
     };
     let earlier = before.settings();
     let later = after.settings();
-    match first_ungrown(earlier, &after) {
+    match first_ungrown(&before, &after) {
         Some(found) => Err(GrowthFault::NotGrown(found, reason(earlier, later, found))),
         None => Ok(Grown {
             old: Digests::of(alloc, earlier, old)?,

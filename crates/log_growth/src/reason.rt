@@ -15,6 +15,7 @@ pub(crate) fn reason(old: &WorldSettings, new: &WorldSettings, found: Ungrown) -
         Ungrown::RouteGone(_) => "is gone, or leads to another payer",
         Ungrown::RouteTaken(_) => "takes claims from a route of its BIN alone",
         Ungrown::RangeTaken(_) => "takes claims of an old pharmacy, which is one of its providers",
+        Ungrown::RouteRejected(_) => "rejects claims that may have had a route",
     }
 }
 

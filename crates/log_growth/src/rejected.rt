@@ -1,20 +1,27 @@
 //! Answers that a pharmacy has of a switch, to requests that had no route.
 
-ghost use Rattle.std.specs.Prelude.{◌≡◌, IfOk};
+ghost use Rattle.std.specs.Prelude.{◌≡◌, IfOk, OnOk, ◌++◌};
+ghost use Rattle.claim_model.specs.Bytes.{bytes_with};
+ghost use Rattle.claim_model.specs.Readable.{readable, route_key};
+ghost use Rattle.std.specs.Option.{option_map};
+ghost use Rattle.claim_model.specs.Node.{Pharmacy};
 ghost use Rattle.world_setup.specs.Seen.{node_seen};
-ghost use Rattle.log_growth.specs.Rejected.{IsReroutedIn, TellsRerouted, TellsReroutedOf, is_rerouted};
+ghost use Rattle.log_growth.specs.Rejected.{AreReroutedIn, id_of, is_rerouted, rerouted_at, rerouted_key, rerouted_of, rerouted_to};
 
 use crate::over::OverFault;
+use bin_routes::{RouteKey, Routes};
+use claim_model::readable_requests;
+use claim_profile::check_readable;
 use envelope::TxnId;
 use node_service::{Service, ServiceFault};
 use payer_book::HashKeys;
-use request_route::{is_rejected, is_routed};
+use request_route::{is_rejected, is_routed, key_of};
 use std::alloc::{AllocError, Global};
 use world_setup::Node;
 
-/// The number of a pharmacy's entry whose answer is the rejection of a switch, for want of a route, though the settings that the
-/// text spells give its request one: forwarded now it could get another answer. None where its log, which opens under these
-/// settings, has no such entry; and of another node.
+/// The numbers of a pharmacy's entries whose answer is the rejection of a switch, for want of a route, though the settings that
+/// the text spells give their requests one, and what a route may look at in these: forwarded now they could get another answer.
+/// None of another node.
 ///
 /// # Errors
 /// `Refused` where the log does not open.
@@ -23,8 +30,8 @@ pub fn rerouted(
     text: &[u8],
     node: Node,
     bytes: &[u8],
-) -> Result<Option<u64>, OverFault>
-    ensures { IfOk result (λ found. IsReroutedIn text.now (node_seen node) bytes.now found) }
+) -> Result<Vec<(u64, RouteKey)>, OverFault>
+    ensures { IfOk result (λ found. AreReroutedIn text.now (node_seen node) bytes.now found.items) }
 {
     match Service::open(alloc, &HashKeys::fixed(), text, node, None, bytes) {
         Ok((service, _)) => Ok(rerouted_of(alloc, node, &service)?),
@@ -33,33 +40,80 @@ pub fn rerouted(
     }
 }
 
-/// The same of a node that is open.
-fn rerouted_of(alloc: Global, node: Node, service: &Service) -> Result<Option<u64>, AllocError>
-    ensures { IfOk result (λ found. TellsReroutedOf service.now (node_seen node) found) }
+/// Those of a node that is open.
+fn rerouted_of(
+    alloc: Global,
+    node: Node,
+    service: &Service,
+) -> Result<Vec<(u64, RouteKey)>, AllocError>
+    ensures { IfOk result (λ found. found.items ≡ rerouted_of service.now (node_seen node)) }
 {
     match node {
-        Node::Pharmacy(pharmacy) => first_rerouted(alloc, service, pharmacy),
-        Node::Switch(_) => Ok(None),
-        Node::Payer(_) => Ok(None),
+        Node::Pharmacy(pharmacy) => all_rerouted(alloc, service, pharmacy),
+        Node::Switch(_) => Ok(Vec::new(alloc)),
+        Node::Payer(_) => Ok(Vec::new(alloc)),
     }
 }
 
-/// The same of a pharmacy.
-#[tactic(auto, using(crate::proofs::Rejecting::none_more))]
-fn first_rerouted(
+/// Those of a pharmacy.
+#[tactic(auto, using(crate::proofs::Rejecting::one_more))]
+fn all_rerouted(
     alloc: Global,
     service: &Service,
     pharmacy: u16,
-) -> Result<Option<u64>, AllocError>
-    ensures { IfOk result (λ found. TellsRerouted service.now pharmacy found) }
+) -> Result<Vec<(u64, RouteKey)>, AllocError>
+    ensures { IfOk result (λ found. found.items ≡ rerouted_of service.now (Pharmacy pharmacy)) }
 {
+    let mut found = Vec::new(alloc);
     for place in 0..service.state().entries(alloc)? {
         let number = place as u64 + 1;
-        if is_rerouted(alloc, service, pharmacy, number)? {
-            return Ok(Some(number));
-        }
+        let key = rerouted_key(alloc, service, pharmacy, number)?;
+        put_key(&mut found, number, key)?;
     }
-    Ok(None)
+    Ok(found)
+}
+
+/// Adds the entry of a number, where it has a key.
+fn put_key(
+    found: &mut Vec<(u64, RouteKey)>,
+    number: u64,
+    key: Option<RouteKey>,
+) -> Result<(), AllocError>
+    ensures { OnOk result (found.new.items ≡ found.old.items ++ rerouted_at number key) }
+{
+    match key {
+        Some(key) => Ok(found.push((number, key))?),
+        None => Ok(()),
+    }
+}
+
+/// What a route may look at in the request of the entry of a number, where it has such an answer.
+fn rerouted_key(
+    alloc: Global,
+    service: &Service,
+    pharmacy: u16,
+    number: u64,
+) -> Result<Option<RouteKey>, AllocError>
+    ensures { IfOk result (λ key. key ≡ rerouted_key service.now pharmacy number) }
+{
+    if !is_rerouted(alloc, service, pharmacy, number)? {
+        return Ok(None);
+    }
+    match service.state().request(alloc, number)? {
+        Some(request) => Ok(key_in(service.settings().routes(), request.as_slice())),
+        None => Ok(None),
+    }
+}
+
+/// What a route may look at in a request.
+fn key_in(_routes: &Routes, request: &[u8]) -> Option<RouteKey>
+    ensures { result ≡ option_map route_key (readable (bytes_with _routes.now) request.now) }
+{
+    readable_requests();
+    match check_readable(request) {
+        Some(framed) => Some(key_of(framed.header())),
+        None => None,
+    }
 }
 
 /// Whether the entry of a number has such an answer.
@@ -81,7 +135,7 @@ fn is_rerouted(
         return Ok(false);
     }
     match service.state().request(alloc, number)? {
-        Some(request) => Ok(is_routed(service.settings().routes(), request.as_slice())),
+        Some(request) => Ok(is_routed(service.settings().routes(), id, request.as_slice())),
         None => Ok(false),
     }
 }

@@ -6,7 +6,7 @@ ghost use Rattle.std.specs.List.{list_any, position_from};
 ghost use Rattle.bin_routes.specs.Providers.{is_up_to};
 ghost use Rattle.bin_routes.specs.Row.{Row, same_pcn};
 ghost use Rattle.bin_routes.specs.Table.{is_ranged};
-ghost use Rattle.log_growth.specs.Compared.{has_bin, has_new_range, is_in_range, is_in_row, is_new_range, same_range, same_ranges, same_row, takes_claims, takes_from, takes_range};
+ghost use Rattle.log_growth.specs.Compared.{covers, has_bin, has_new_range, is_in_range, is_in_row, is_for, is_new_range, rejects_routed, same_range, same_ranges, same_row, takes_claims, takes_from, takes_range};
 
 use bin_routes::{Providers, RouteRow};
 use pharmacy_journal::PharmacySettings;
@@ -55,7 +55,49 @@ fn takes_range(pharmacies: &[PharmacySettings], old: &[RouteRow], row: &RouteRow
 fn is_new_range(old: &[RouteRow], row: &RouteRow) -> bool
     ensures { result ≡ is_new_range old.now row.now }
 {
-    row.providers().is_some() && !has_row(old, row)
+    row.rejected().is_none() && (row.providers().is_some() && !has_row(old, row))
+}
+
+/// The place of the first new row that lets requests stay rejected which may have had a route.
+pub(crate) fn first_rejecting(old: &[RouteRow], new: &[RouteRow]) -> Option<usize>
+    ensures { result ≡ position_from (λ (row : Row). rejects_routed old.now row) 0 new.now }
+{
+    new.iter().position(|row| rejects_routed(old, row))
+}
+
+/// Whether a row is new, lets requests stay rejected, and one of these leads to a payer for some of its BIN and processor
+/// control number.
+fn rejects_routed(old: &[RouteRow], row: &RouteRow) -> bool
+    ensures { result ≡ rejects_routed old.now row.now }
+{
+    row.rejected().is_some() && (!has_row(old, row) && is_covered(old, row))
+}
+
+/// Whether one of these leads to a payer for some of the BIN and the processor control number of a row.
+fn is_covered(rows: &[RouteRow], row: &RouteRow) -> bool
+    ensures { result ≡ list_any (covers row.now) rows.now }
+{
+    rows.iter().any(|other| covers(row, other))
+}
+
+/// Whether the other leads to a payer for some of the BIN and the processor control number of a row.
+fn covers(row: &RouteRow, other: &RouteRow) -> bool
+    ensures { result ≡ covers row.now other.now }
+{
+    other.rejected().is_none() && (row.bin() == other.bin() && is_for(row.pcn(), other.pcn()))
+}
+
+/// Whether a row of the other processor control number, or of none, is for this one.
+fn is_for(pcn: Option<&[u8]>, other: Option<&[u8]>) -> bool
+    ensures { result ≡ is_for (option_map (λ p. p.now) pcn.entry) (option_map (λ p. p.now) other.entry) }
+{
+    match other {
+        None => true,
+        Some(other) => match pcn {
+            None => false,
+            Some(pcn) => pcn == other,
+        },
+    }
 }
 
 /// Whether one of these rows has the BIN number of a row.
@@ -126,7 +168,8 @@ fn is_same(row: &RouteRow, other: &RouteRow) -> bool
     ensures { result ≡ same_row row.now other.now }
 {
     (row.bin() == other.bin() && is_same_pcn(row.pcn(), other.pcn()))
-        && (are_same_ranges(&row.providers(), &other.providers()) && row.payer() == other.payer())
+        && (are_same_ranges(&row.providers(), &other.providers())
+            && (row.payer() == other.payer() && row.rejected() == other.rejected()))
 }
 
 /// Whether two rows are for the same providers, or both for all.

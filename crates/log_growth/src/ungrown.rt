@@ -27,4 +27,8 @@ pub enum Ungrown {
     /// route has its BIN.
     #[error("row {0} of the new routes")]
     RangeTaken(usize),
+    /// The route at this place of the new settings is new and lets requests stay rejected, and an old route leads to a payer for
+    /// its BIN and processor control number, or for its BIN alone.
+    #[error("row {0} of the new routes")]
+    RouteRejected(usize),
 }

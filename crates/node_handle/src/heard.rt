@@ -1,8 +1,8 @@
 //! An answer that is told before it is on disk: one that a payer gave, who gives it again.
 
 ghost use Rattle.std.specs.Prelude.{◌≡◌, Some};
-ghost use Rattle.node_handle.specs.Asked.{Gives, answer_for, answer_in};
-ghost use Rattle.node_handle.specs.Heard.{GivesHeard, heard_in, of_payer};
+ghost use Rattle.node_handle.specs.Asked.{Gives, answer_for};
+ghost use Rattle.node_handle.specs.Heard.{GivesHeard, heard_in, heard_routed, of_payer};
 
 use crate::asking::{held, lacking};
 use crate::handle::NodeHandle;
@@ -70,37 +70,35 @@ fn give_heard(
     ensures { Gives (Some (heard_in pharmacy number node.now)) result buffer.old buffer.new size.old size.new }
 {
     match node.state().request(alloc, number) {
-        Ok(Some(request)) => {
-            if is_routed(node.settings().routes(), request.as_slice()) {
-                give_of_payer(alloc, node, pharmacy, number, buffer, size)
-            } else {
-                Err(Refusal::Unsynced)
-            }
-        }
+        Ok(Some(request)) => match TxnId::new(pharmacy, number) {
+            Some(id) => give_routed(alloc, node, id, request.as_slice(), buffer, size),
+            None => Err(Refusal::NotFound),
+        },
         Ok(None) => Err(Refusal::NotFound),
         Err(_) => Err(Refusal::OutOfMemory),
     }
 }
 
-/// Copies the answer for an id by its two numbers, where it is a payer's.
-fn give_of_payer(
+/// Copies the answer for an id whose request this is, where that has a route.
+fn give_routed(
     alloc: Global,
     node: &Service,
-    pharmacy: u16,
-    number: u64,
+    id: TxnId,
+    request: &[u8],
     buffer: &mut [u8],
     size: &mut usize,
 ) -> Result<(), Refusal>
-    ensures { Gives (Some (of_payer (answer_in pharmacy number node.now))) result buffer.old buffer.new size.old size.new }
+    ensures { Gives (Some (heard_routed node.now id request.now)) result buffer.old buffer.new size.old size.new }
 {
-    match TxnId::new(pharmacy, number) {
-        Some(id) => give_of_payer_for(alloc, node, id, buffer, size),
-        None => Err(Refusal::NotFound),
+    if is_routed(node.settings().routes(), id, request) {
+        give_of_payer(alloc, node, id, buffer, size)
+    } else {
+        Err(Refusal::Unsynced)
     }
 }
 
 /// Copies the answer for an id, where it is a payer's.
-fn give_of_payer_for(
+fn give_of_payer(
     alloc: Global,
     node: &Service,
     id: TxnId,

@@ -36,7 +36,7 @@ pub fn is_rejected(answer: &[u8]) -> bool
 }
 
 /// What a route may look at in a header.
-fn key_of(header: &RequestHeader) -> RouteKey
+pub fn key_of(header: &RequestHeader) -> RouteKey
     ensures { result ≡ route_key header.now }
 {
     RouteKey {

@@ -2,7 +2,7 @@
 
 use crate::Mark;
 use crate::labels::put_advice;
-use crate::lettering::{put_change, put_event};
+use crate::lettering::{put_change, put_event, put_terms};
 use crate::plan::Plan;
 use crate::rows::event_of;
 use input_text::put_decimal;
@@ -65,8 +65,17 @@ pub(crate) fn refusal_of(alloc: Global, fault: Fault) -> Result<Vec<u8>, AllocEr
 /// The note of a change of a plan.
 pub(crate) fn note_of(alloc: Global, events: &[Event], event: u64) -> Result<Vec<u8>, AllocError> {
     let mut note = Vec::new(alloc);
-    if let Some(Event::Plan { product, price, .. }) = event_of(events, event) {
-        put_change(&mut note, product.as_slice(), *price)?;
+    if let Some(event) = event_of(events, event) {
+        put_note(&mut note, event)?;
     }
     Ok(note)
+}
+
+/// Appends what a change of a plan says; nothing of another event.
+fn put_note(note: &mut Vec<u8>, event: &Event) -> Result<(), AllocError> {
+    match event {
+        Event::Plan { product, price, .. } => put_change(note, product.as_slice(), *price),
+        Event::Terms { fee, copay, .. } => put_terms(note, *fee, *copay),
+        _ => Ok(()),
+    }
 }

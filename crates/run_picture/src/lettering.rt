@@ -59,6 +59,7 @@ pub(crate) fn put_event(out: &mut Vec<u8>, event: &Event) -> Result<(), AllocErr
         Event::Stop(node) => put_call(out, b"stop ", *node),
         Event::Start(node) => put_call(out, b"start ", *node),
         Event::Plan { payer, .. } => put_call(out, b"plan ", Node::Payer(*payer)),
+        Event::Terms { payer, .. } => put_call(out, b"terms ", Node::Payer(*payer)),
         Event::Adjudicate { packet, .. } => {
             out.extend_from_slice(b"adjudicate ")?;
             put_decimal(out, *packet)
@@ -71,7 +72,7 @@ fn put_call(out: &mut Vec<u8>, word: &[u8], node: Node) -> Result<(), AllocError
     put_node(out, node)
 }
 
-/// Appends what a change of a plan says: the product in printed bytes, and its price.
+/// Appends what a change of a price says: the product in printed bytes, and its price.
 pub(crate) fn put_change(
     out: &mut Vec<u8>,
     product: &[u8],
@@ -85,6 +86,14 @@ pub(crate) fn put_change(
         }
         None => out.extend_from_slice(b" is off the plan"),
     }
+}
+
+/// Appends what a change of terms says: the fee and the copay.
+pub(crate) fn put_terms(out: &mut Vec<u8>, fee: u32, copay: u32) -> Result<(), AllocError> {
+    out.extend_from_slice(b"fee ")?;
+    put_dollars(out, fee)?;
+    out.extend_from_slice(b", copay ")?;
+    put_dollars(out, copay)
 }
 
 /// Appends a ruling in short: `P` or `D` and the total, `A`, or `R` and the reject codes.

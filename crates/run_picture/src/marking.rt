@@ -95,6 +95,10 @@ fn made_mark(number: u64, event: &Event) -> Mark
             event: number,
             payer: *payer,
         },
+        Event::Terms { payer, .. } => Mark::Priced {
+            event: number,
+            payer: *payer,
+        },
         Event::Adjudicate { packet: taken, .. } => Mark::Arrived {
             event: number,
             packet: *taken,

@@ -107,6 +107,6 @@ fn node_of(event: &Event) -> Option<Node> {
         Event::Deliver { .. } | Event::Adjudicate { .. } => None,
         Event::Stop(node) => Some(*node),
         Event::Start(node) => Some(*node),
-        Event::Plan { payer, .. } => Some(Node::Payer(*payer)),
+        Event::Plan { payer, .. } | Event::Terms { payer, .. } => Some(Node::Payer(*payer)),
     }
 }

@@ -39,7 +39,7 @@ all_serials [] a = tt
 all_serials (p ∷ ps) a = (record { serial = a.0 }, all_serials ps a.1)
 
 abbrev pub LeadToPayers : Type 0
-LeadToPayers = (payers : ℕ) (rows : List Row) (key : RouteKey) (payer : ℕ) → first_fault payers rows ≡ None → (bytes_with (routes_of rows)).route key ≡ Some payer → (0 < payer) × (payer ≤ payers)
+LeadToPayers = (payers : ℕ) (rows : List Row) (number : ℕ) (key : RouteKey) (payer : ℕ) → first_fault payers rows ≡ None → (bytes_with (routes_of rows)).route number key ≡ Some payer → (0 < payer) × (payer ≤ payers)
 
 pub opened : (s : WorldSettings) (routes : RouteMaps) → routes ≡ routes_of s.routes.items → settings_fault (settings_seen s) ≡ None → first_fault (length s.payers.items) s.routes.items ≡ None → AllByRecursion IsPharmacySettings s.pharmacies.items → AllByRecursion HasSerial s.payers.items → AllByRecursion IsTimely s.pharmacies.items
     → ((routes : RouteMaps) → Laws (bytes_with routes)) → LeadToPayers → IsReached routes (opening (settings_seen s))
@@ -49,7 +49,7 @@ opened s routes is e f big serials timely laws lead =
       no_fault = e;
       pharmacies = big;
       books = all_serials s.payers.items serials;
-      routes = λ key payer h.
-          let r = lead (length s.payers.items) s.routes.items key payer f h in
+      routes = λ number key payer h.
+          let r = lead (length s.payers.items) s.routes.items number key payer f h in
           (r.0, subst (λ (n : ℕ). payer ≤ n) (sym (length-map s.payers.items payer_seen)) r.1);
     }) timely)

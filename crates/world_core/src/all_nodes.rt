@@ -90,6 +90,7 @@ impl Nodes {
             | Event::Stop(_)
             | Event::Start(_)
             | Event::Plan { .. }
+            | Event::Terms { .. }
             | Event::Adjudicate { .. } => 1,
         }
     }

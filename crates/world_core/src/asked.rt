@@ -31,6 +31,10 @@ pub(crate) fn asked_by<'a>(
             let price = *price;
             Some((Node::Payer(*payer), Call::Plan { product, price }))
         }
+        Event::Terms { payer, fee, copay } => {
+            let (fee, copay) = (*fee, *copay);
+            Some((Node::Payer(*payer), Call::Terms { fee, copay }))
+        }
         Event::Adjudicate { packet, advice } => adjudicated(packets, *packet, advice),
     }
 }

@@ -195,7 +195,7 @@ fn route_fault(
 ) -> Result<Option<String>, AllocError> {
     let number = passed.saturating_add(1);
     if reader.is_living() && table.get("rejected").is_some() {
-        let place = format!(in alloc; "[[route]] {number}, which has rejected,")?;
+        let place = format!(in alloc; "[[route]] {number} with rejected")?;
         return table_fault(alloc, place.as_str(), table, REJECTING_ROUTE, limits);
     }
     let place = format!(in alloc; "[[route]] {number}")?;

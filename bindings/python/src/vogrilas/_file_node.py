@@ -76,6 +76,13 @@ class FileNode:
         price_text = b"none" if price is None else b"%d" % price
         return self._call(_line(b"plan " + printed(product).replace(b" ", b"\\x20") + b" " + price_text))
 
+    def terms(self, fee: int, copay: int) -> Said:
+        """Another fee and another copay, in cents. Of a payer."""
+        for amount in (fee, copay):
+            if not isinstance(amount, int) or isinstance(amount, bool):
+                raise TypeError(f"an amount has to be an int, not {type(amount).__name__}")
+        return self._call(_line(b"terms %d %d" % (fee, copay)))
+
     def stop(self) -> Said:
         """The node stops: it refuses calls until it starts."""
         return self._call(_line(b"stop"))
