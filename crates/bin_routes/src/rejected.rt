@@ -18,7 +18,8 @@ pub type KeyText = [u8; 33];
 #[tactic(auto, unfolding(crate::specs::Fault::text_fault))]
 pub(crate) fn rejected_of(place: usize, row: &RouteRow, payers: u16) -> Result<KeyText, RoutesFault>
     requires { IsSome row.now.rejected }
-    ensures ok { IfOk result (λ text. (rejected_key (filled_row row.now) ≡ Some text) × (text_fault payers place row.now ≡ None)) }
+    ensures ok { IfOk result (λ text. (rejected_key (filled_row row.now) ≡ Some text)
+        × (text_fault payers place row.now ≡ None)) }
     ensures fault { IfErr result (λ fault. text_fault payers place row.now ≡ Some fault) }
 {
     let Some(bin) = bin_of(row.bin()) else {

@@ -47,7 +47,13 @@ impl RouteRow {
 
     /// The same row for these providers alone.
     pub fn for_providers(self, providers: Providers) -> RouteRow
-        ensures { result ≡ record { bin = self.bin; pcn = self.pcn; providers = Some providers; payer = self.payer; rejected = self.rejected } }
+        ensures { result ≡ record {
+          bin = self.bin;
+          pcn = self.pcn;
+          providers = Some providers;
+          payer = self.payer;
+          rejected = self.rejected;
+        } }
     {
         let RouteRow {
             bin,
@@ -69,7 +75,13 @@ impl RouteRow {
     /// provider up to this number stay rejected. They were, before the row that leads there; requests after it have that row's
     /// payer. Such a row wants a processor control number and a provider, and its payer's number says nothing.
     pub fn rejecting(self, last: u64) -> RouteRow
-        ensures { result ≡ record { bin = self.bin; pcn = self.pcn; providers = self.providers; payer = self.payer; rejected = Some last } }
+        ensures { result ≡ record {
+          bin = self.bin;
+          pcn = self.pcn;
+          providers = self.providers;
+          payer = self.payer;
+          rejected = Some last;
+        } }
     {
         let RouteRow {
             bin,

@@ -70,7 +70,8 @@ pub fn without_serials_no_answer()
 /// the book has room: each of its claims without a standing payment is then rejected with 70.
 pub fn a_plan_change_lets_it_be_rejected()
     ensures { (ctx : Context) (settings : WorldSettings) (w : World) (journal : JournalAtRest) (id : TxnId)
-        (request : List ℕ) (header : RequestHeader) (payer : ℕ) (b : Book) (change : Change) (plan : Plan) → Reached ctx settings w → Timely settings → journal_at w id.pharmacy ≡ Some journal
+        (request : List ℕ) (header : RequestHeader) (payer : ℕ) (b : Book) (change : Change) (plan : Plan)
+        → Reached ctx settings w → Timely settings → journal_at w id.pharmacy ≡ Some journal
         → IsOpen w id request → IsAskedOf ctx w id request header payer b → numbered w.payers payer ≡ Some (Up b)
         → row_of id b.rows ≡ None → b.settings.asks ≡ false → length b.rows < b.settings.cap
         → ctx.reprice b.plan change ≡ Ok plan

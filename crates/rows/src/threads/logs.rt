@@ -131,6 +131,7 @@ impl Recorded {
                 product,
                 price,
             } => plan(*payer, product, *price),
+            Event::Terms { payer, fee, copay } => terms(*payer, *fee, *copay),
             Event::Adjudicate { packet, advice } => self.adjudicating(*packet, advice),
         }
     }
@@ -204,6 +205,11 @@ fn plan(payer: u16, product: &Octets, price: Option<u32>) -> Option<Made> {
         Ok(product) => call_on(Node::Payer(payer), Call::Plan { product, price }),
         Err(_) => None,
     }
+}
+
+/// A change of terms.
+fn terms(payer: u16, fee: u32, copay: u32) -> Option<Made> {
+    call_on(Node::Payer(payer), Call::Terms { fee, copay })
 }
 
 /// The taking of a packet by whom it is for.
