@@ -35,7 +35,7 @@ total_is : (paid : List Paid) (p : Paid) → total_of (paid ++ p ∷ []) ≡ Som
 total_is [] p = refl
 total_is (q ∷ more) p = refl
 
-or_none : (paid : List Paid) → sums_or_none (total_of paid) ≡ sums_of paid
+pub or_none : (paid : List Paid) → sums_or_none (total_of paid) ≡ sums_of paid
 or_none [] = refl
 or_none (q ∷ more) = refl
 
@@ -67,7 +67,7 @@ at_key None (Some n) = refl
 at_key (Some m) None = refl
 at_key (Some m) (Some n) = at_nat m n
 
-same_key : (k q : Option ℕ) → option_eq nat_eq k q ≡ true → k ≡ q
+pub same_key : (k q : Option ℕ) → option_eq nat_eq k q ≡ true → k ≡ q
 same_key None None e = refl
 same_key None (Some n) e = cc e
 same_key (Some m) None e = cc e

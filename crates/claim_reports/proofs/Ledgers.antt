@@ -25,7 +25,7 @@ no_held : (o : Option ℕ) (r : Bool) → option_map (λ (c : ℕ). let h : Held
 no_held None r e = refl
 no_held (Some c) r e = cc e
 
-stood_is : (o : Option ℕ) (r : Bool) (c : ℕ) → standing_in (option_map (λ (k : ℕ). let h : Held = record { cents = k; reversed = r } in h) o) ≡ Some c → (o ≡ Some c) × (r ≡ false)
+pub stood_is : (o : Option ℕ) (r : Bool) (c : ℕ) → standing_in (option_map (λ (k : ℕ). let h : Held = record { cents = k; reversed = r } in h) o) ≡ Some c → (o ≡ Some c) × (r ≡ false)
 stood_is None r c e = absurd (cc e)
 stood_is (Some k) true c e = absurd (cc e)
 stood_is (Some k) false c e = (e, refl)
@@ -75,7 +75,7 @@ reversed_more xs a old new moved back is =
     }
 
 -- what was paid among all stays what it was
-abbrev AreAmong : List Move → List Move → Type 0
+abbrev pub AreAmong : List Move → List Move → Type 0
 AreAmong xs all = (q c : ℕ) → paid_for q xs ≡ Some c → paid_for q all ≡ Some c
 
 pub record IsTaken (xs : List Move) (ruling : Move) (all : List Move) (old new : Ledger) (moved : Moved) : Type 0 where
@@ -84,7 +84,7 @@ pub record IsTaken (xs : List Move) (ruling : Move) (all : List Move) (old new :
   pub reversed : moved.reversed ≡ back_cents all ruling
   pub balance : old.standing + moved.paid ≡ new.standing + moved.reversed
 
-taken : (xs : List Move) (ruling : Move) (all : List Move) (old new : Ledger) (moved : Moved) → AreAmong xs all → Takes old new ruling moved → IsLedgerOf xs old → IsTaken xs ruling all old new moved
+pub taken : (xs : List Move) (ruling : Move) (all : List Move) (old new : Ledger) (moved : Moved) → AreAmong xs all → Takes old new ruling moved → IsLedgerOf xs old → IsTaken xs ruling all old new moved
 taken xs (Paid a c) all old new moved among takes is =
     let paid : moved.paid ≡ c = ap (λ (m : Moved). m.paid) takes.told in
     let back : moved.reversed ≡ 0 = ap (λ (m : Moved). m.reversed) takes.told in

@@ -1,10 +1,17 @@
 pub mod Adding
 pub mod Snocs
 pub mod Ledgers
+pub mod WrongMoves
+pub mod WrongRulings
+pub mod WrongLines
+pub mod WrongRemittances
 pub mod Comparisons
 pub mod Continuing
 pub mod Firsts
 pub mod Lines
 pub mod Rowwise
+pub mod Telling
+pub mod Overflows
+pub mod Readings
 pub mod Received
 pub mod Remittances

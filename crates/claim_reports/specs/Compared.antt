@@ -1,5 +1,5 @@
 -- What a pharmacy counts beside what a payer paid, of tables, as a table.
-use Rattle.std.specs.Prelude.{◌≡◌, ℕ, ◌==◌, ◌++◌, Bool, true, false, cond, if◌then◌else◌, List, [], ◌∷◌, Option, Some, None, option_map, codes}
+use Rattle.std.specs.Prelude.{◌≡◌, ℕ, ◌==◌, ◌++◌, Bool, true, false, cond, if◌then◌else◌, List, [], ◌∷◌, Option, Some, None, option_map, unwrap_or, codes}
 use Rattle.std.specs.Option.{option_or}
 use Rattle.std.specs.List.{flat_map, list_all}
 use Rattle.table_text.specs.Members.{Row, Text, Flag, number_or_nothing}
@@ -16,6 +16,8 @@ use Rattle.claim_reports.specs.declared.sides.FigureColumns.{FigureColumns}
 use Rattle.claim_reports.specs.declared.sides.CountedColumns.{CountedColumns}
 use Rattle.claim_reports.specs.declared.sides.EntryColumns.{EntryColumns}
 use Rattle.claim_reports.specs.declared.sides.MadeColumns.{MadeColumns}
+use Rattle.claim_reports.specs.declared.naming.Name.TheVariants as name
+use Rattle.claim_reports.specs.Causes.{Cause, bad_if, bad_number, bad_optional, bad_word, column_in, is_this, missing, records_of, table_cause}
 use Rattle.claim_reports.specs.Digits.{filled}
 use Rattle.claim_reports.specs.Tables.{AreRecordsOf, rows_of, column_of, number_in, optional_in, word_in, given_by, ◌>>=◌}
 use Rattle.claim_reports.specs.Comparing.{Findings}
@@ -120,6 +122,99 @@ AreEntries pharmacy table entries = (records : List (List (List ℕ))) × (c : E
 
 abbrev pub AreMade : Between → List ℕ → List Made → Type 0
 AreMade b table made = (records : List (List (List ℕ))) × (c : MadeColumns) × AreRecordsOf table records × AreMadeColumns records c × (given_by (made_in c b) (rows_of records) ≡ Some made)
+
+-- ---- what is wrong with them
+
+-- the columns, of which the first that is not there is told
+abbrev pub parties_in : List (List (List ℕ)) → Parties
+parties_in records = record { payer = column_in records name.Payer; pharmacy = column_in records name.Pharmacy }
+
+abbrev pub figure_columns_in : List (List (List ℕ)) → FigureColumns
+figure_columns_in records = record {
+  prescription = column_in records name.Prescription;
+  fill = column_in records name.Fill;
+  cost = column_in records name.CostCents;
+  fee = column_in records name.FeeCents;
+  copay = column_in records name.CopayCents;
+  cents = column_in records name.PaidCents;
+}
+
+abbrev pub counted_columns_in : List (List (List ℕ)) → CountedColumns
+counted_columns_in records = record { parties = parties_in records; auth = column_in records name.Authorization; figures = figure_columns_in records }
+
+abbrev pub entry_columns_in : List (List (List ℕ)) → EntryColumns
+entry_columns_in records = record { pharmacy = column_in records name.Pharmacy; number = column_in records name.Number; state = column_in records name.State }
+
+abbrev pub made_columns_in : List (List (List ℕ)) → MadeColumns
+made_columns_in records = record {
+  parties = parties_in records;
+  auth = column_in records name.Authorization;
+  number = column_in records name.Number;
+  figures = figure_columns_in records;
+  reversed_by = column_in records name.ReversedBy;
+}
+
+unfoldable pub parties_missing : ℕ → List (List (List ℕ)) → Option Cause
+parties_missing table records = option_or (missing table records name.Payer) (missing table records name.Pharmacy)
+
+unfoldable pub figures_missing : ℕ → List (List (List ℕ)) → Option Cause
+figures_missing table records =
+    option_or (missing table records name.Prescription) (option_or (missing table records name.Fill) (option_or (missing table records name.CostCents)
+    (option_or (missing table records name.FeeCents) (option_or (missing table records name.CopayCents) (missing table records name.PaidCents)))))
+
+unfoldable pub counted_missing : ℕ → List (List (List ℕ)) → Option Cause
+counted_missing table records = option_or (parties_missing table records) (option_or (missing table records name.Authorization) (figures_missing table records))
+
+unfoldable pub entry_missing : ℕ → List (List (List ℕ)) → Option Cause
+entry_missing table records = option_or (missing table records name.Pharmacy) (option_or (missing table records name.Number) (missing table records name.State))
+
+unfoldable pub made_missing : ℕ → List (List (List ℕ)) → Option Cause
+made_missing table records =
+    option_or (parties_missing table records) (option_or (missing table records name.Authorization) (option_or (missing table records name.Number)
+    (option_or (figures_missing table records) (missing table records name.ReversedBy))))
+
+-- the first bad value of a row: of its payer; of a row of the payer that of its pharmacy; of a row of both the others
+unfoldable pub between_bad : Parties → Between → List (List ℕ) → Option (List ℕ)
+between_bad c b row = option_or (bad_number c.payer row) (bad_if (is_this (number_in c.payer.place row) b.payer) (bad_number c.pharmacy row))
+
+unfoldable pub figures_bad : FigureColumns → List (List ℕ) → Option (List ℕ)
+figures_bad c row =
+    option_or (bad_number c.prescription row) (option_or (bad_number c.fill row) (option_or (bad_number c.cost row)
+    (option_or (bad_number c.fee row) (option_or (bad_number c.copay row) (bad_number c.cents row)))))
+
+unfoldable pub counted_values_bad : CountedColumns → List (List ℕ) → Option (List ℕ)
+counted_values_bad c row = option_or (bad_number c.auth row) (figures_bad c.figures row)
+
+unfoldable pub made_values_bad : MadeColumns → List (List ℕ) → Option (List ℕ)
+made_values_bad c row =
+    option_or (bad_number c.auth row) (option_or (bad_number c.number row) (option_or (figures_bad c.figures row) (bad_optional c.reversed_by row)))
+
+unfoldable pub entry_values_bad : EntryColumns → List (List ℕ) → Option (List ℕ)
+entry_values_bad c row = option_or (bad_number c.number row) (bad_word c.state (codes "answered") (codes "open") row)
+
+unfoldable pub counted_bad : Between → CountedColumns → List (List ℕ) → Option (List ℕ)
+counted_bad b c row = option_or (between_bad c.parties b row) (bad_if (unwrap_or (is_between c.parties b row) false) (counted_values_bad c row))
+
+unfoldable pub made_bad : Between → MadeColumns → List (List ℕ) → Option (List ℕ)
+made_bad b c row = option_or (between_bad c.parties b row) (bad_if (unwrap_or (is_between c.parties b row) false) (made_values_bad c row))
+
+unfoldable pub entry_bad : ℕ → EntryColumns → List (List ℕ) → Option (List ℕ)
+entry_bad pharmacy c row = option_or (bad_number c.pharmacy row) (bad_if (is_this (number_in c.pharmacy.place row) pharmacy) (entry_values_bad c row))
+
+-- what is wrong with each of the three tables
+abbrev pub counted_cause : Between → List (List (List ℕ)) → Option Cause
+counted_cause b records = table_cause 1 (counted_missing 1 records) (counted_bad b (counted_columns_in records)) records
+
+abbrev pub entries_cause : ℕ → List (List (List ℕ)) → Option Cause
+entries_cause pharmacy records = table_cause 2 (entry_missing 2 records) (entry_bad pharmacy (entry_columns_in records)) records
+
+abbrev pub made_cause : Between → List (List (List ℕ)) → Option Cause
+made_cause b records = table_cause 3 (made_missing 3 records) (made_bad b (made_columns_in records)) records
+
+-- why there is no comparison of them: what is wrong with the first; else with the second; else with the third
+abbrev pub compared_cause : List ℕ → List ℕ → List ℕ → Between → Option Cause
+compared_cause counted entries payments b =
+    option_or (counted_cause b (records_of counted)) (option_or (entries_cause b.pharmacy (records_of entries)) (made_cause b (records_of payments)))
 
 -- ---- what is told of them
 

@@ -1,5 +1,6 @@
 -- Rulings that move money: what they paid, what they reversed, and what stands.
-use Rattle.std.specs.Prelude.{◌≡◌, ℕ, ◌+◌, ◌==◌, Bool, true, false, cond, List, [], ◌∷◌, ◌++◌, Option, Some, None, option_map, unwrap_or}
+use Rattle.std.specs.Prelude.{◌≡◌, ℕ, ◌+◌, ◌==◌, Bool, true, false, cond, List, [], ◌∷◌, ◌++◌, Option, Some, None, option_map, unwrap_or, ◌^◌, if◌then◌else◌, is_none, is_some, length, nat_le, nat_lt}
+use Rattle.std.specs.Option.{option_or}
 use Rattle.std.specs.Ordering.{nat_cmp}
 use Rattle.std.specs.List.{list_any, sum_by}
 use Rattle.std.specs.BTreeMap.{Updates, get}
@@ -9,6 +10,7 @@ use Rattle.claim_reports.specs.declared.ledger.Held.{Held}
 use Rattle.claim_reports.specs.declared.ledger.Ledger.{Ledger}
 use Rattle.claim_reports.specs.declared.ledger.Moved.{Moved}
 use Rattle.claim_reports.specs.declared.ledger.Period.{Period}
+use Rattle.claim_reports.specs.Causes.{Cause, NotStanding, PaidAgain, TooLarge}
 
 -- what was paid under an authorization
 abbrev pub paid_for : ℕ → List Move → Option ℕ
@@ -111,3 +113,35 @@ pub record TakesAll (before moves : List Move) (old new : Ledger) (moved : Moved
   pub paid : moved.paid ≡ paid_total moves
   pub reversed : moved.reversed ≡ taken_back (before ++ moves) moves
   pub balance : old.standing + moved.paid ≡ new.standing + moved.reversed
+
+-- ---- what is wrong with rulings
+
+-- a sum has more than 64 bits
+abbrev pub over : ℕ → Option Cause
+over sum = if nat_le (2 ^ 64) sum then Some TooLarge else None
+
+-- a ruling by this number, after others: it pays an authorization again, what stands is too large, or it reverses a payment that does not stand
+abbrev pub move_cause : List Move → ℕ → Move → Option Cause
+move_cause before number (Paid a cents) = if is_some (paid_for a before) then Some (PaidAgain number) else over (standing_total before + cents)
+move_cause before number (Reversed a) = if is_none (standing_in (held_at a before)) then Some (NotStanding number) else None
+
+-- rulings after others, of which the first has this number: the first that is wrong, or with which what was paid or reversed so far is too large
+unfoldable pub moves_cause : List Move → ℕ → ℕ → ℕ → List Move → Option Cause
+moves_cause before number paid reversed [] = None
+moves_cause before number paid reversed (m ∷ more) =
+    option_or (move_cause before number m)
+    (option_or (over (paid + paid_cents m)) (option_or (over (reversed + back_cents (before ++ m ∷ []) m))
+    (moves_cause (before ++ m ∷ []) (number + 1) (paid + paid_cents m) (reversed + back_cents (before ++ m ∷ []) m) more)))
+
+-- why there is no period of some rulings after those before it
+abbrev pub period_cause : List Move → List Move → Option Cause
+period_cause before moves = option_or (moves_cause [] 1 0 0 before) (moves_cause before (length before + 1) 0 0 moves)
+
+-- the same of a ledger
+abbrev pub reversing_cause : Option ℕ → ℕ → ℕ → Option Cause
+reversing_cause None standing number = Some (NotStanding number)
+reversing_cause (Some cents) standing number = if nat_lt standing cents then Some (NotStanding number) else None
+
+abbrev pub taking_cause : Ledger → ℕ → Move → Option Cause
+taking_cause l number (Paid a cents) = if is_some (get nat_cmp l.payments a) then Some (PaidAgain number) else over (l.standing + cents)
+taking_cause l number (Reversed a) = reversing_cause (standing_in (get nat_cmp l.payments a)) l.standing number

@@ -1,4 +1,6 @@
 pub mod Tables
+pub mod Names
+pub mod Causes
 pub mod Digits
 pub mod Totals
 pub mod Totalled

@@ -1,5 +1,6 @@
 -- What callers were told beside what a run has of a pharmacy, of tables, as a table.
 use Rattle.std.specs.Prelude.{◌≡◌, ℕ, ◌==◌, ◌&&◌, ◌++◌, Bool, false, List, [], ◌∷◌, Option, Some, None, bytes_eq, codes, decimal, drop, if◌then◌else◌, is_none, length}
+use Rattle.std.specs.Option.{option_or}
 use Rattle.std.specs.List.{flat_map, list_all}
 use Rattle.std.specs.Result.{result_ok}
 use Rattle.input_text.specs.Printing.{unprinted}
@@ -8,7 +9,11 @@ use Rattle.table_text.specs.Rows.{head_text, csv_row}
 use Rattle.claim_reports.specs.declared.beside.Entry.{Entry}
 use Rattle.claim_reports.specs.declared.replies.PacketColumns.{PacketColumns}
 use Rattle.claim_reports.specs.declared.replies.ReceiptColumns.{ReceiptColumns}
-use Rattle.claim_reports.specs.Compared.{AreEntries, wanted}
+use Rattle.claim_reports.specs.declared.naming.Name.TheVariants as name
+use Rattle.claim_reports.specs.declared.table.Column.{Column}
+use Rattle.claim_reports.specs.Names.{name_text}
+use Rattle.claim_reports.specs.Causes.{Cause, bad_if, bad_number, column_in, is_this, missing, records_of, table_cause, unread}
+use Rattle.claim_reports.specs.Compared.{AreEntries, wanted, entries_cause}
 use Rattle.claim_reports.specs.Comparing.{entry_under, last_with}
 use Rattle.claim_reports.specs.Replies.{Reply}
 use Rattle.claim_reports.specs.Tables.{AreRecordsOf, rows_of, column_of, cell, number_in, given_by, ◌>>=◌}
@@ -74,6 +79,60 @@ AreSent pharmacy table sent =
 abbrev pub AreReceipts : ℕ → List ℕ → List Reply → Type 0
 AreReceipts pharmacy table receipts =
     (records : List (List (List ℕ))) × (c : ReceiptColumns) × AreRecordsOf table records × AreReceiptColumns records c × (given_by (receipt_in c pharmacy) (rows_of records) ≡ Some receipts)
+
+-- ---- what is wrong with them
+
+-- the columns, of which the first that is not there is told
+abbrev pub packet_columns_in : List (List (List ℕ)) → PacketColumns
+packet_columns_in records = record {
+  to = column_in records name.To;
+  carries = column_in records name.Carries;
+  pharmacy = column_in records name.Pharmacy;
+  number = column_in records name.Number;
+  bytes = column_in records name.Bytes;
+}
+
+abbrev pub receipt_columns_in : List (List (List ℕ)) → ReceiptColumns
+receipt_columns_in records = record { pharmacy = column_in records name.Pharmacy; number = column_in records name.Number; answer = column_in records name.Answer }
+
+unfoldable pub packets_missing : ℕ → List (List (List ℕ)) → Option Cause
+packets_missing table records =
+    option_or (missing table records name.To) (option_or (missing table records name.Carries) (option_or (missing table records name.Pharmacy)
+    (option_or (missing table records name.Number) (missing table records name.Bytes))))
+
+unfoldable pub receipts_missing : ℕ → List (List (List ℕ)) → Option Cause
+receipts_missing table records = option_or (missing table records name.Pharmacy) (option_or (missing table records name.Number) (missing table records name.Answer))
+
+-- a column whose text spells no bytes
+abbrev pub bad_spelling : Column → List (List ℕ) → Option (List ℕ)
+bad_spelling c row = unread (name_text c.name) (spelled_in c.place row)
+
+-- the first bad value of a packet: of an answer to the node that of its pharmacy; of one of the pharmacy's own its number, then its bytes
+unfoldable pub answer_bad : PacketColumns → List (List ℕ) → Option (List ℕ)
+answer_bad c row = option_or (bad_number c.number row) (bad_spelling c.bytes row)
+
+unfoldable pub sent_bad : List ℕ → ℕ → PacketColumns → List (List ℕ) → Option (List ℕ)
+sent_bad node pharmacy c row =
+    bad_if (is_answer_to c node row) (option_or (bad_number c.pharmacy row) (bad_if (is_this (number_in c.pharmacy.place row) pharmacy) (answer_bad c row)))
+
+-- of a receipt: of its pharmacy; of one of the pharmacy its number, then its answer
+unfoldable pub told_bad : ReceiptColumns → List (List ℕ) → Option (List ℕ)
+told_bad c row = option_or (bad_number c.number row) (bad_spelling c.answer row)
+
+unfoldable pub receipt_bad : ℕ → ReceiptColumns → List (List ℕ) → Option (List ℕ)
+receipt_bad pharmacy c row = option_or (bad_number c.pharmacy row) (bad_if (is_this (number_in c.pharmacy.place row) pharmacy) (told_bad c row))
+
+-- what is wrong with the packets, and with the receipts
+abbrev pub packets_cause : ℕ → List (List (List ℕ)) → Option Cause
+packets_cause pharmacy records = table_cause 3 (packets_missing 3 records) (sent_bad (node_name pharmacy) pharmacy (packet_columns_in records)) records
+
+abbrev pub receipts_cause : ℕ → List (List (List ℕ)) → Option Cause
+receipts_cause pharmacy records = table_cause 1 (receipts_missing 1 records) (receipt_bad pharmacy (receipt_columns_in records)) records
+
+-- why there is nothing to tell: what is wrong with the entries; else with the packets; else with the receipts
+abbrev pub received_cause : List ℕ → List ℕ → List ℕ → ℕ → Option Cause
+received_cause receipts entries packets pharmacy =
+    option_or (entries_cause pharmacy (records_of entries)) (option_or (packets_cause pharmacy (records_of packets)) (receipts_cause pharmacy (records_of receipts)))
 
 -- ---- what is told of them
 

@@ -1,5 +1,6 @@
 -- What a payer sends a pharmacy for a period, as tables.
-use Rattle.std.specs.Prelude.{◌≡◌, ℕ, ◌+◌, ◌==◌, ◌++◌, List, [], ◌∷◌, Option, Some, codes, decimal, if◌then◌else◌, min, option_map}
+use Rattle.std.specs.Prelude.{◌≡◌, ℕ, ◌+◌, ◌==◌, ◌++◌, List, [], ◌∷◌, Option, Some, codes, decimal, if◌then◌else◌, min, option_map, length, None}
+use Rattle.std.specs.Option.{option_or}
 use Rattle.table_text.specs.Members.{Row, Value, Number, Text}
 use Rattle.table_text.specs.Rows.{head_text, csv_row}
 use Rattle.claim_reports.specs.declared.ledger.Move.{Move}
@@ -9,9 +10,10 @@ use Rattle.claim_reports.specs.declared.rulings.Remittance.{Remittance}
 use Rattle.claim_reports.specs.declared.rulings.RulingColumns.{RulingColumns}
 use Rattle.claim_reports.specs.declared.settling.Settled.{Settled}
 use Rattle.claim_reports.specs.Digits.{filled}
-use Rattle.claim_reports.specs.Ledger.{IsPeriod, back_cents}
-use Rattle.claim_reports.specs.Rulings.{Ruling, AreRulingColumns, AreRulings, moves_before, moves_behind, rulings_behind}
-use Rattle.claim_reports.specs.Tables.{AreRecordsOf, cell, number_in, ◌>>=◌}
+use Rattle.claim_reports.specs.Ledger.{IsPeriod, back_cents, moves_cause, over, period_cause, taken_back}
+use Rattle.claim_reports.specs.Causes.{Cause, bad_at, bad_number, records_of, uneven}
+use Rattle.claim_reports.specs.Rulings.{Ruling, AreRulingColumns, AreRulings, moves_before, moves_behind, rulings_behind, Placed, placed_behind, placed_from, ruling_columns_in, ruling_columns_missing, rulings_at, rulings_bad}
+use Rattle.claim_reports.specs.Tables.{AreRecordsOf, cell, number_in, ◌>>=◌, rows_of}
 
 -- ---- a row for each ruling of the period
 
@@ -136,3 +138,47 @@ pub record IsSummed (table : List ℕ) (asked : Remittance) (text : List ℕ) : 
   pub whole : settled.check + (period.moved.reversed + asked.owed) ≡ period.moved.paid + settled.owed
   pub one : min settled.check settled.owed ≡ 0
   pub told : text ≡ head_text sum_names ++ csv_row (sums_row asked up_to period settled)
+
+-- ---- what is wrong with them
+
+-- the first bad number of a ruling's row
+unfoldable pub numbers_bad : RulingColumns → List (List ℕ) → Option (List ℕ)
+numbers_bad c row = option_or (bad_number c.number row) (option_or (bad_number c.transaction row) (bad_number c.prescription row))
+
+-- what is wrong with rulings after others, of which the first is the payment or reversal of this number: with what it moves, then with its row
+unfoldable pub lines_cause : RulingColumns → List Move → ℕ → List Placed → Option Cause
+lines_cause c before number [] = None
+lines_cause c before number (p ∷ more) =
+    option_or (moves_cause before number 0 0 (p.ruling.moves ∷ [])) (option_or (bad_at p.table p.at (numbers_bad c p.ruling.row))
+    (lines_cause c (before ++ p.ruling.moves ∷ []) (number + 1) more))
+
+-- with the rulings before a period, then with those in it
+abbrev pub remitting_cause : RulingColumns → List Move → List Placed → Option Cause
+remitting_cause c before ps = option_or (moves_cause [] 1 0 0 before) (lines_cause c before (length before + 1) ps)
+
+-- what is wrong with a table of rows
+abbrev pub rows_cause : Remittance → List (List (List ℕ)) → Option Cause
+rows_cause asked records =
+    option_or (uneven 1 records) (option_or (ruling_columns_missing 1 records) (rulings_bad 1 (ruling_columns_in records) asked 0 1 (rows_of records)))
+
+-- the rulings of a table in which nothing is wrong
+abbrev pub rulings_placed : Remittance → List (List (List ℕ)) → List Placed
+rulings_placed asked records = placed_from 1 (ruling_columns_in records) asked 0 1 (rows_of records)
+
+-- why there are no lines: what is wrong with the table; else with its rulings
+abbrev pub remitted_cause : List ℕ → Remittance → Option Cause
+remitted_cause table asked =
+    let records = records_of table in
+    let ps = rulings_placed asked records in
+    option_or (rows_cause asked records)
+    (remitting_cause (ruling_columns_in records) (moves_before asked.after (rulings_at ps)) (placed_behind asked.after ps))
+
+-- why there are no sums: what is wrong with the table; else with its rulings; else what was reversed and what was owed are too large
+abbrev pub settling_cause : List Move → List Move → ℕ → Option Cause
+settling_cause before moves owed = option_or (period_cause before moves) (over (taken_back (before ++ moves) moves + owed))
+
+abbrev pub summed_cause : List ℕ → Remittance → Option Cause
+summed_cause table asked =
+    let records = records_of table in
+    let rulings = rulings_at (rulings_placed asked records) in
+    option_or (rows_cause asked records) (settling_cause (moves_before asked.after rulings) (moves_behind asked.after rulings) asked.owed)

@@ -1,9 +1,13 @@
 -- The rulings of a payer's table of rows that move a pharmacy's money, before a period and in it.
-use Rattle.std.specs.Prelude.{◌≡◌, ℕ, ◌+◌, ◌==◌, ◌++◌, cond, List, [], ◌∷◌, Option, Some, None, bytes_eq, codes, filter, if◌then◌else◌, length, map, nat_le, nat_lt, option_map, take}
+use Rattle.std.specs.Prelude.{◌≡◌, ℕ, ◌+◌, ◌==◌, ◌++◌, cond, List, [], ◌∷◌, Option, Some, None, bytes_eq, codes, filter, if◌then◌else◌, length, map, nat_le, nat_lt, option_map, take, ◌&&◌, Bool, unwrap_or}
+use Rattle.std.specs.Option.{option_or}
 use Rattle.claim_reports.specs.declared.ledger.Move.{Move}
 use Rattle.claim_reports.specs.declared.ledger.Move.TheVariants.{Paid, Reversed}
 use Rattle.claim_reports.specs.declared.rulings.Remittance.{Remittance}
 use Rattle.claim_reports.specs.declared.rulings.RulingColumns.{RulingColumns}
+use Rattle.claim_reports.specs.declared.naming.Name.TheVariants as name
+use Rattle.claim_reports.specs.Names.{name_text}
+use Rattle.claim_reports.specs.Causes.{Cause, bad_at, bad_if, bad_number, column_in, is_this, missing}
 use Rattle.claim_reports.specs.Tables.{rows_of, column_of, cell, number_in, given, given_by, ◌>>=◌}
 
 -- the columns of a table of rows
@@ -106,3 +110,79 @@ read_rows c asked r [] = Some r
 read_rows c asked r (row ∷ more) = do
   next ← read_row c asked r row
   read_rows c asked next more
+
+-- ---- what is wrong with them
+
+-- the columns, of which the first that is not there is told
+abbrev pub ruling_columns_in : List (List (List ℕ)) → RulingColumns
+ruling_columns_in records = record {
+  payer = column_in records name.Payer;
+  pharmacy = column_in records name.Pharmacy;
+  number = column_in records name.Number;
+  transaction = column_in records name.Transaction;
+  ruling = column_in records name.Ruling;
+  auth = column_in records name.Authorization;
+  prescription = column_in records name.Prescription;
+  day = column_in records name.DateOfService;
+  cents = column_in records name.PaidCents;
+}
+
+unfoldable pub ruling_columns_missing : ℕ → List (List (List ℕ)) → Option Cause
+ruling_columns_missing table records =
+    option_or (missing table records name.Payer) (option_or (missing table records name.Pharmacy) (option_or (missing table records name.Number)
+    (option_or (missing table records name.Transaction) (option_or (missing table records name.Ruling) (option_or (missing table records name.Authorization)
+    (option_or (missing table records name.Prescription) (option_or (missing table records name.DateOfService) (missing table records name.PaidCents))))))))
+
+-- the first bad value of a ruling: of one of the pharmacy's the word for it; of a payment its authorization, then its cents; of a reversal its authorization
+unfoldable pub payment_bad : RulingColumns → List (List ℕ) → Option (List ℕ)
+payment_bad c row = option_or (bad_number c.auth row) (bad_number c.cents row)
+
+unfoldable pub move_bad : RulingColumns → List (List ℕ) → Option (List ℕ)
+move_bad c row =
+    if bytes_eq (cell c.ruling.place row) (codes "paid") then payment_bad c row else
+    if bytes_eq (cell c.ruling.place row) (codes "reversed") then bad_number c.auth row else
+    if bytes_eq (cell c.ruling.place row) (codes "duplicate") then None else
+    if bytes_eq (cell c.ruling.place row) (codes "rejected") then None else Some (name_text c.ruling.name)
+
+unfoldable pub moved_bad : RulingColumns → ℕ → List (List ℕ) → Option (List ℕ)
+moved_bad c pharmacy row = option_or (bad_number c.pharmacy row) (bad_if (is_this (number_in c.pharmacy.place row) pharmacy) (move_bad c row))
+
+-- a row is a ruling of the payer up to the end of the period, where this many were before it
+abbrev pub is_taken : RulingColumns → Remittance → ℕ → List (List ℕ) → Bool
+is_taken c asked count row = is_this (number_in c.payer.place row) asked.payer && nat_lt count asked.up_to
+
+unfoldable pub count_with : RulingColumns → Remittance → ℕ → List (List ℕ) → ℕ
+count_with c asked count row = if is_taken c asked count row then count + 1 else count
+
+-- of each row the payer is looked at, of such a ruling all else
+unfoldable pub ruling_bad : RulingColumns → Remittance → ℕ → List (List ℕ) → Option (List ℕ)
+ruling_bad c asked count row = option_or (bad_number c.payer row) (bad_if (is_taken c asked count row) (moved_bad c asked.pharmacy row))
+
+-- the first bad value of rows, of which the first has this number, where this many of the payer's rulings were before them
+abbrev pub rulings_bad : ℕ → RulingColumns → Remittance → ℕ → ℕ → List (List (List ℕ)) → Option Cause
+rulings_bad table c asked count number [] = None
+rulings_bad table c asked count number (row ∷ more) =
+    option_or (bad_at table number (ruling_bad c asked count row)) (rulings_bad table c asked (count_with c asked count row) (number + 1) more)
+
+-- rulings that move the pharmacy's money, each with its table and its row's place in it
+pub record Placed : Type 0 where
+  pub table : ℕ
+  pub at : ℕ
+  pub ruling : Ruling
+
+abbrev pub placed : ℕ → ℕ → ℕ → List (List ℕ) → Option Move → List Placed
+placed table at number row one = map (λ (r : Ruling). record { table = table; at = at; ruling = r }) (numbered number row one)
+
+unfoldable pub placed_row : ℕ → RulingColumns → Remittance → ℕ → ℕ → List (List ℕ) → List Placed
+placed_row table c asked count at row = if is_taken c asked count row then placed table at (count + 1) row (unwrap_or (move_to c asked.pharmacy row) None) else []
+
+abbrev pub placed_from : ℕ → RulingColumns → Remittance → ℕ → ℕ → List (List (List ℕ)) → List Placed
+placed_from table c asked count at [] = []
+placed_from table c asked count at (row ∷ more) = placed_row table c asked count at row ++ placed_from table c asked (count_with c asked count row) (at + 1) more
+
+-- these rulings, and those in the period
+abbrev pub rulings_at : List Placed → List Ruling
+rulings_at ps = map (λ (p : Placed). p.ruling) ps
+
+abbrev pub placed_behind : ℕ → List Placed → List Placed
+placed_behind after ps = filter (λ (p : Placed). nat_lt after p.ruling.number) ps

@@ -6,7 +6,7 @@ use Rattle.claim_reports.specs.declared.rulings.Rulings.{Rulings}
 use Rattle.claim_reports.specs.declared.ledger.Move.{Move}
 use Rattle.claim_reports.specs.declared.rulings.Remittance.{Remittance}
 use Rattle.claim_reports.specs.declared.rulings.RulingColumns.{RulingColumns}
-use Rattle.claim_reports.specs.Rulings.{Read, Ruling, numbered, read_own, read_row}
+use Rattle.claim_reports.specs.Rulings.{Placed, Read, Ruling, numbered, read_own, read_row}
 
 abbrev pub line_seen : Line → Ruling
 line_seen l = record { number = l.ruling; row = fields_of l.row.record.now; moves = l.moves }
@@ -27,3 +27,13 @@ ReadsOwn c pharmacy row old new = read_own c pharmacy (read_seen old) row ≡ So
 -- a ruling of this number is added, where it moves something
 abbrev pub AddsRuling : List Line → List Line → ℕ → List (List ℕ) → Option Move → Type 0
 AddsRuling old new number row moves = lines_seen new ≡ lines_seen old ++ numbered number row moves
+
+-- the same with their places
+abbrev pub line_placed : Line → Placed
+line_placed l = record { table = l.row.table; at = l.row.number; ruling = line_seen l }
+
+abbrev pub lines_placed : List Line → List Placed
+lines_placed lines = map line_placed lines
+
+abbrev pub AddsPlaced : List Line → List Line → List Placed → Type 0
+AddsPlaced old new more = lines_placed new ≡ lines_placed old ++ more

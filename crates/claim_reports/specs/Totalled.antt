@@ -1,5 +1,6 @@
 -- Totals of a table of payments, as a table.
-use Rattle.std.specs.Prelude.{◌≡◌, ℕ, List, [], ◌∷◌, ◌++◌, Option, Some, option_map, filter, codes}
+use Rattle.std.specs.Prelude.{◌≡◌, ℕ, List, [], ◌∷◌, ◌++◌, Option, Some, option_map, filter, codes, unwrap_or}
+use Rattle.std.specs.Option.{option_or}
 use Rattle.std.specs.List.{flat_map}
 use Rattle.std.specs.BTreeMap.{BTreeMap, IsOrdered, get}
 use Rattle.table_text.specs.Members.{Row, Number, number_or_nothing}
@@ -12,13 +13,21 @@ use Rattle.claim_reports.specs.declared.totals.Sums.{Sums}
 use Rattle.claim_reports.specs.declared.totalling.Columns.{Columns}
 use Rattle.claim_reports.specs.declared.totalling.Days.{Days}
 use Rattle.claim_reports.specs.declared.totalling.Days.TheVariants.{Service, Ruling}
+use Rattle.claim_reports.specs.declared.naming.Name.{Name}
+use Rattle.claim_reports.specs.declared.naming.Name.TheVariants as name
+use Rattle.claim_reports.specs.declared.table.Column.{Column}
+use Rattle.claim_reports.specs.Names.{name_text}
+use Rattle.claim_reports.specs.Causes.{Cause, bad_number, bad_optional, bad_rows, bad_word, column_in, missing, records_of, uneven}
 use Rattle.claim_reports.specs.Tables.{AreRecordsOf, rows_of, column_of, number_in, optional_in, word_in, given_by, ◌>>=◌}
-use Rattle.claim_reports.specs.Totals.{key_cmp, total_at, is_chosen}
+use Rattle.claim_reports.specs.Totals.{key_cmp, total_at, is_chosen, sums_cause}
 
--- the name of the column with the day that a report goes by
+-- the column with the day that a report goes by, and its name
+abbrev pub day_column : Days → Name
+day_column Service = name.DateOfService
+day_column Ruling = name.RuledOn
+
 abbrev pub day_name : Days → List ℕ
-day_name Service = codes "date_of_service"
-day_name Ruling = codes "ruled_on"
+day_name days = name_text (day_column days)
 
 -- the name of the column that totals are made by
 abbrev pub by_name : By → Days → List ℕ
@@ -52,6 +61,49 @@ paid_in days c row = do
 -- the payments of a table: one of each row
 abbrev pub ArePaid : Days → List (List (List ℕ)) → List Paid → Type 0
 ArePaid days records paid = (c : Columns) × AreColumns days records c × (given_by (λ row. option_map Some (paid_in days c row)) (rows_of records) ≡ Some paid)
+
+-- ---- what is wrong with them
+
+-- the columns, of which the first that is not there is told
+abbrev pub columns_in : Days → List (List (List ℕ)) → Columns
+columns_in days records = record {
+  payer = column_in records name.Payer;
+  pharmacy = column_in records name.Pharmacy;
+  day = column_in records (day_column days);
+  cents = column_in records name.PaidCents;
+  state = column_in records name.State;
+}
+
+abbrev pub columns_missing : ℕ → Days → List (List (List ℕ)) → Option Cause
+columns_missing table days records =
+    option_or (missing table records name.Payer) (option_or (missing table records name.Pharmacy) (option_or (missing table records (day_column days))
+    (option_or (missing table records name.PaidCents) (missing table records name.State))))
+
+-- the first bad value of a row
+abbrev pub bad_day : Days → Column → List (List ℕ) → Option (List ℕ)
+bad_day Service c row = bad_number c row
+bad_day Ruling c row = bad_optional c row
+
+unfoldable pub paid_bad : Days → Columns → List (List ℕ) → Option (List ℕ)
+paid_bad days c row =
+    option_or (bad_number c.payer row) (option_or (bad_number c.pharmacy row) (option_or (bad_day days c.day row)
+    (option_or (bad_number c.cents row) (bad_word c.state (codes "standing") (codes "reversed") row))))
+
+-- what is wrong with the columns and the rows of a table
+unfoldable pub paid_cause : ℕ → Days → List (List (List ℕ)) → Option Cause
+paid_cause table days records = option_or (columns_missing table days records) (bad_rows table (paid_bad days (columns_in days records)) 1 (rows_of records))
+
+-- the payments of a table in which nothing is wrong
+unfoldable pub payments_in : Days → List (List (List ℕ)) → List Paid
+payments_in days records = unwrap_or (given_by (λ row. option_map Some (paid_in days (columns_in days records) row)) (rows_of records)) []
+
+-- why there are no totals of a table: it is none, a column is not there, a value is none of its kind, or sums of those that are chosen are too large
+abbrev pub totals_cause : List ℕ → By → Days → Choice → Option Cause
+totals_cause table by days choice =
+    option_or (uneven 1 (records_of table)) (option_or (paid_cause 1 days (records_of table))
+    (sums_cause by (filter (is_chosen choice) (payments_in days (records_of table)))))
+
+-- ---- what is told of them
 
 -- the names of the columns of totals
 abbrev pub total_names : List ℕ → List (List ℕ)

@@ -1,9 +1,9 @@
 -- Payments that are chosen, and their sums.
-use Rattle.std.specs.Prelude.{◌≡◌, ℕ, ◌+◌, ◌==◌, ◌&&◌, Bool, true, false, not, nat_le, cond, List, [], ◌∷◌, Option, Some, None, filter, nat_eq}
+use Rattle.std.specs.Prelude.{◌≡◌, ℕ, ◌+◌, ◌^◌, ◌==◌, ◌&&◌, ◌||◌, if◌then◌else◌, Bool, true, false, not, nat_le, cond, List, [], ◌∷◌, Option, Some, None, filter, nat_eq}
 use Rattle.std.specs.Option.{option_eq, option_cmp}
 use Rattle.std.specs.Ordering.{nat_cmp}
 use Rattle.std.specs.declared.cmp.Ordering.{Ordering}
-use Rattle.std.specs.List.{sum_by}
+use Rattle.std.specs.List.{list_any, sum_by}
 use Rattle.std.specs.Map.{values_of}
 use Rattle.std.specs.BTreeMap.{BTreeMap, IsOrdered, Updates, get, insert_entry}
 use Rattle.claim_reports.specs.declared.choice.Paid.{Paid}
@@ -11,6 +11,7 @@ use Rattle.claim_reports.specs.declared.choice.Choice.{Choice}
 use Rattle.claim_reports.specs.declared.totals.By.{By}
 use Rattle.claim_reports.specs.declared.totals.By.TheVariants.{Payer, Pharmacy, Day}
 use Rattle.claim_reports.specs.declared.totals.Sums.{Sums}
+use Rattle.claim_reports.specs.Causes.{Cause, TooLarge}
 
 -- a number is the one that is wanted, where one is
 abbrev pub is_number : Option ℕ → ℕ → Bool
@@ -100,3 +101,15 @@ pub record AddUp (totals : List (Option ℕ × Sums)) (paid : List Paid) : Type 
   pub cents : sum_by (λ (s : Sums). s.cents) (values_of totals) ≡ (sums_of paid).cents
   pub reversed_counts : sum_by (λ (s : Sums). s.reversed_count) (values_of totals) ≡ (sums_of paid).reversed_count
   pub reversed_cents : sum_by (λ (s : Sums). s.reversed_cents) (values_of totals) ≡ (sums_of paid).reversed_cents
+
+-- a sum has more than 64 bits
+abbrev pub is_too_large : Sums → Bool
+is_too_large s = nat_le (2 ^ 64) s.count || (nat_le (2 ^ 64) s.cents || (nat_le (2 ^ 64) s.reversed_count || nat_le (2 ^ 64) s.reversed_cents))
+
+-- why a payment is not added to sums
+abbrev pub adding_cause : Sums → Paid → Option Cause
+adding_cause s p = if is_too_large (with_payment s p) then Some TooLarge else None
+
+-- why there are no totals: the sums of the number of some payment are too large
+unfoldable pub sums_cause : By → List Paid → Option Cause
+sums_cause by paid = if list_any (λ (p : Paid). is_too_large (sums_of (filter (is_at_key by (key_of by p)) paid))) paid then Some TooLarge else None

@@ -1,11 +1,14 @@
 -- A table of rows or payments of payers, with when each was ruled after it.
-use Rattle.std.specs.Prelude.{◌≡◌, ℕ, List, [], ◌∷◌, ◌++◌, Option, Some, None, bytes_eq, codes, drop, get_or, if◌then◌else◌, map, option_map, take}
+use Rattle.std.specs.Prelude.{◌≡◌, ℕ, List, [], ◌∷◌, ◌++◌, Option, Some, None, bytes_eq, codes, drop, get_or, if◌then◌else◌, map, option_map, take, is_some}
+use Rattle.std.specs.Option.{option_or}
 use Rattle.input_text.specs.Decimals.{decimal_number}
 use Rattle.claim_reports.specs.declared.ruled.Request.{Request}
 use Rattle.claim_reports.specs.declared.ruled.Taken.{Taken}
 use Rattle.claim_reports.specs.declared.ruled_rows.Named.{Named}
 use Rattle.claim_reports.specs.declared.ruled_rows.RowColumns.{RowColumns}
 use Rattle.claim_reports.specs.declared.ruled_rows.CallColumns.{CallColumns}
+use Rattle.claim_reports.specs.declared.naming.Name.TheVariants as name
+use Rattle.claim_reports.specs.Causes.{Cause, bad_if, bad_number, bad_optional, bad_rows, column_in, missing, present, records_of, table_cause, uneven}
 use Rattle.claim_reports.specs.Digits.{ShowsTime}
 use Rattle.claim_reports.specs.Ruled.{ruled_at}
 use Rattle.claim_reports.specs.Tables.{AreRecordsOf, rows_of, column_of, cell, number_in, optional_in, given_by, ◌>>=◌}
@@ -62,6 +65,61 @@ AreRequests records requests = (c : RowColumns) × AreRowColumns records c × (g
 
 abbrev pub AreTaken : List ℕ → List Taken → Type 0
 AreTaken table taken = (records : List (List (List ℕ))) × (c : CallColumns) × AreRecordsOf table records × AreCallColumns records c × (given_by (taken_in c) (rows_of records) ≡ Some taken)
+
+-- ---- what is wrong with them
+
+-- the columns, of which the first that is not there is told
+abbrev pub named_in : List (List (List ℕ)) → Named
+named_in records = record { pharmacy = column_in records name.Pharmacy; number = column_in records name.Number }
+
+abbrev pub row_columns_in : List (List (List ℕ)) → RowColumns
+row_columns_in records = record { payer = column_in records name.Payer; named = named_in records }
+
+abbrev pub call_columns_in : List (List (List ℕ)) → CallColumns
+call_columns_in records = record {
+  node = column_in records name.Node;
+  time = column_in records name.Time;
+  carries = column_in records name.Carries;
+  named = named_in records;
+}
+
+unfoldable pub named_missing : ℕ → List (List (List ℕ)) → Option Cause
+named_missing table records = option_or (missing table records name.Pharmacy) (missing table records name.Number)
+
+unfoldable pub row_columns_missing : ℕ → List (List (List ℕ)) → Option Cause
+row_columns_missing table records = option_or (missing table records name.Payer) (named_missing table records)
+
+unfoldable pub call_columns_missing : ℕ → List (List (List ℕ)) → Option Cause
+call_columns_missing table records =
+    option_or (missing table records name.Node) (option_or (missing table records name.Time) (option_or (missing table records name.Carries) (named_missing table records)))
+
+-- the first bad value of a row: of its payer, its pharmacy, its number
+unfoldable pub named_bad : Named → List (List ℕ) → Option (List ℕ)
+named_bad c row = option_or (bad_number c.pharmacy row) (bad_number c.number row)
+
+unfoldable pub request_bad : RowColumns → List (List ℕ) → Option (List ℕ)
+request_bad c row = option_or (bad_number c.payer row) (named_bad c.named row)
+
+-- of a call that carries a request to a payer: of its pharmacy, its number, its time
+unfoldable pub taken_by_bad : CallColumns → Option ℕ → List (List ℕ) → Option (List ℕ)
+taken_by_bad c payer row = bad_if (is_some payer) (option_or (named_bad c.named row) (bad_optional c.time row))
+
+unfoldable pub taken_bad : CallColumns → List (List ℕ) → Option (List ℕ)
+taken_bad c row = bad_if (bytes_eq (cell c.carries.place row) (codes "request")) (taken_by_bad c (payer_named (cell c.node.place row)) row)
+
+-- what is wrong with the columns and the rows of a table of rows, and with a table of calls
+unfoldable pub requests_cause : ℕ → List (List (List ℕ)) → Option Cause
+requests_cause table records = option_or (row_columns_missing table records) (bad_rows table (request_bad (row_columns_in records)) 1 (rows_of records))
+
+abbrev pub calls_cause : List (List (List ℕ)) → Option Cause
+calls_cause records = table_cause 2 (call_columns_missing 2 records) (taken_bad (call_columns_in records)) records
+
+-- why there is no table with times: what is wrong with the first; else it has a column of the two already; else what is wrong with its columns and rows;
+-- else with the second
+abbrev pub ruled_cause : List ℕ → List ℕ → Option Cause
+ruled_cause rows calls =
+    option_or (uneven 1 (records_of rows)) (option_or (present 1 (records_of rows) name.RuledAt) (option_or (present 1 (records_of rows) name.RuledOn)
+    (option_or (requests_cause 1 (records_of rows)) (calls_cause (records_of calls)))))
 
 -- ---- what is told of them
 

@@ -1,9 +1,10 @@
 //! What a pharmacy counts beside what a payer paid.
 
-ghost use Rattle.std.specs.Prelude.{◌≡◌, ◌++◌, ℕ, IfOk, OnOk};
+ghost use Rattle.std.specs.Prelude.{◌≡◌, ◌++◌, ℕ, IfErr, IfOk, OnOk};
 ghost use Rattle.std.specs.List.{flat_map};
 ghost use Rattle.std.specs.Ordering.{nat_cmp};
 ghost use Rattle.std.specs.BTreeMap.{get};
+ghost use Rattle.claim_reports.specs.declared.fault.ReportFault.TheVariants.{OutOfMemory};
 ghost use Rattle.claim_reports.specs.Comparing.{made_under, entry_under, counted_under, is_open_entry, Findings, told, counted_finding, made_finding, same_figures};
 
 use crate::fault::ReportFault;
@@ -83,7 +84,9 @@ pub fn compare(
     entries: &[Entry],
     made: &[Made],
 ) -> Result<Vec<Finding>, ReportFault>
-    ensures { IfOk result (λ found. Findings counted.now entries.now made.now found.items) }
+    ensures found { IfOk result (λ found. Findings counted.now entries.now made.now found.items) }
+    // It is refused for want of memory alone.
+    ensures memory { IfErr result (λ e. e ≡ OutOfMemory) }
 {
     let held = entries_by_number(alloc, entries)?;
     let paid = made_by_auth(alloc, made)?;
@@ -99,7 +102,8 @@ pub(crate) fn entries_by_number(
     alloc: Global,
     entries: &[Entry],
 ) -> Result<BTreeMap<u64, Entry>, ReportFault>
-    ensures { IfOk result (λ by. (number : ℕ) → get nat_cmp by number ≡ entry_under number entries.now) }
+    ensures under { IfOk result (λ by. (number : ℕ) → get nat_cmp by number ≡ entry_under number entries.now) }
+    ensures memory { IfErr result (λ e. e ≡ OutOfMemory) }
 {
     let mut by = BTreeMap::new(alloc);
     for entry in entries {
@@ -110,7 +114,8 @@ pub(crate) fn entries_by_number(
 
 /// The payments of a book by their authorizations.
 fn made_by_auth(alloc: Global, made: &[Made]) -> Result<BTreeMap<u64, Made>, ReportFault>
-    ensures { IfOk result (λ by. (auth : ℕ) → get nat_cmp by auth ≡ made_under auth made.now) }
+    ensures under { IfOk result (λ by. (auth : ℕ) → get nat_cmp by auth ≡ made_under auth made.now) }
+    ensures memory { IfErr result (λ e. e ≡ OutOfMemory) }
 {
     let mut by = BTreeMap::new(alloc);
     for payment in made {
@@ -124,7 +129,8 @@ fn counted_by_auth(
     alloc: Global,
     counted: &[Counted],
 ) -> Result<BTreeMap<u64, Counted>, ReportFault>
-    ensures { IfOk result (λ by. (auth : ℕ) → get nat_cmp by auth ≡ counted_under auth counted.now) }
+    ensures under { IfOk result (λ by. (auth : ℕ) → get nat_cmp by auth ≡ counted_under auth counted.now) }
+    ensures memory { IfErr result (λ e. e ≡ OutOfMemory) }
 {
     let mut by = BTreeMap::new(alloc);
     for payment in counted {

@@ -1,6 +1,7 @@
 //! Payments, and which of them a report is about.
 
-ghost use Rattle.std.specs.Prelude.{◌≡◌, filter, IfOk};
+ghost use Rattle.std.specs.Prelude.{◌≡◌, filter, IfErr, IfOk};
+ghost use Rattle.claim_reports.specs.declared.fault.ReportFault.TheVariants.{OutOfMemory};
 ghost use Rattle.claim_reports.specs.Totals.{is_number, is_from, is_to, is_chosen};
 
 use crate::fault::ReportFault;
@@ -40,7 +41,9 @@ pub struct Choice {
 /// # Errors
 /// Want of memory.
 pub fn chosen(alloc: Global, choice: &Choice, paid: &[Paid]) -> Result<Vec<Paid>, ReportFault>
-    ensures { IfOk result (λ kept. kept.items ≡ filter (is_chosen choice.now) paid.now) }
+    ensures kept { IfOk result (λ kept. kept.items ≡ filter (is_chosen choice.now) paid.now) }
+    // It is refused for want of memory alone.
+    ensures memory { IfErr result (λ e. e ≡ OutOfMemory) }
 {
     let mut kept = Vec::new(alloc);
     for payment in paid {

@@ -5,7 +5,8 @@ ghost use Rattle.std.specs.List.{list_all};
 ghost use Rattle.table_text.specs.Adding.{Adds, AddsRow};
 ghost use Rattle.table_text.specs.Rows.{head_text};
 ghost use Rattle.table_text.specs.declared.layout.Style.TheVariants.{Csv};
-ghost use Rattle.claim_reports.specs.Compared.{first_apart, apart_name, finding_names, shown_row, shown, finding_rows, is_on_its_way, IsCompared};
+ghost use Rattle.claim_reports.specs.Causes.{RefusesFor};
+ghost use Rattle.claim_reports.specs.Compared.{compared_cause, first_apart, apart_name, finding_names, shown_row, shown, finding_rows, is_on_its_way, IsCompared};
 ghost use Rattle.claim_reports.specs.Showing.{apart_seen, shown_seen};
 
 use crate::beside::{Figures, Finding, compare};
@@ -55,7 +56,9 @@ pub fn compare_tables(
     between: Between,
 ) -> Result<Comparison, ReportFault>
     // What is written is, row by row, what is found of the rows that a reader of CSV finds in the tables.
-    ensures { IfOk result (λ told. IsCompared counted.now entries.now payments.now between told.text.items told.agrees) }
+    ensures made { IfOk result (λ told. IsCompared counted.now entries.now payments.now between told.text.items told.agrees) }
+    // It is refused for the first fault of the tables or for want of memory, and for nothing else.
+    ensures refuses { RefusesFor result (compared_cause counted.now entries.now payments.now between) }
 {
     let counted = counted_in(alloc, counted, between)?;
     let entries = entries_in(alloc, entries, between.pharmacy)?;

@@ -1,5 +1,8 @@
 //! Why there is no report.
 
+ghost use Rattle.std.specs.Prelude.{◌≡◌};
+ghost use Rattle.claim_reports.specs.declared.fault.ReportFault.TheVariants.{OutOfMemory};
+
 use std::alloc::{AllocError, AllocFailed};
 use thiserror::Error;
 
@@ -33,12 +36,16 @@ pub enum ReportFault {
 }
 
 impl From<AllocError> for ReportFault {
+    ghost from_gives = { λ _ e. e ≡ OutOfMemory };
+
     fn from(_refused: AllocError) -> ReportFault {
         ReportFault::OutOfMemory
     }
 }
 
 impl<T: Drop> From<AllocFailed<T>> for ReportFault {
+    ghost from_gives = { λ _ e. e ≡ OutOfMemory };
+
     fn from(_refused: AllocFailed<T>) -> ReportFault {
         ReportFault::OutOfMemory
     }

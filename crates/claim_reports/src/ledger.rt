@@ -1,10 +1,12 @@
 //! The ledger of a payer and a pharmacy: what was paid, what was reversed, and what stands.
 
-ghost use Rattle.std.specs.Prelude.{◌≡◌, ◌+◌, [], List, IfOk};
+ghost use Rattle.std.specs.Prelude.{◌≡◌, ◌<◌, ◌+◌, ◌^◌, [], List, length, IfOk};
 ghost use Rattle.std.specs.Ordering.{nat_cmp};
 ghost use Rattle.std.specs.BTreeMap.{get};
 ghost use Rattle.claim_reports.specs.declared.ledger.Move.{Move};
-ghost use Rattle.claim_reports.specs.Ledger.{IsLedgerOf, Pays, Reverses, Takes, TakesAll, IsPeriod, standing_in};
+ghost use Rattle.claim_reports.specs.declared.ledger.Move.TheVariants.{Paid as PaidSeen, Reversed as ReversedSeen};
+ghost use Rattle.claim_reports.specs.Causes.{RefusesFor};
+ghost use Rattle.claim_reports.specs.Ledger.{moves_cause, period_cause, taking_cause, IsLedgerOf, Pays, Reverses, Takes, TakesAll, IsPeriod, standing_in};
 
 use crate::fault::ReportFault;
 use std::alloc::Global;
@@ -65,6 +67,8 @@ pub fn period_of(alloc: Global, before: &[Move], moves: &[Move]) -> Result<Perio
     // So the period closes.
     ensures closes { IfOk result (λ period.
         period.begin + period.moved.paid ≡ period.end + period.moved.reversed) }
+    // It is refused for the first ruling that is wrong, for sums that are too large, or for want of memory, and for nothing else.
+    ensures refuses { RefusesFor result (period_cause before.now moves.now) }
 {
     let mut ledger = Ledger::new(alloc);
     ledger.take_all(0, before)?;
@@ -97,8 +101,11 @@ impl Ledger {
     /// # Errors
     /// `PaidAgain` and `NotStanding` with the number of a ruling; `TooLarge`; want of memory.
     pub fn take_all(&mut self, passed: u64, moves: &[Move]) -> Result<Moved, ReportFault>
-        ensures { (before : List Move) → IsLedgerOf before self.old
+        ensures takes { (before : List Move) → IsLedgerOf before self.old
             → IfOk result (λ moved. TakesAll before moves.now self.old self.new moved) }
+        // They are refused for the first that is wrong, by its number, for sums that are too large, or for want of memory.
+        ensures refuses { (before : List Move) → IsLedgerOf before self.old → passed + length moves.now < 2 ^ 64
+            → RefusesFor result (moves_cause before (passed + 1) 0 0 moves.now) }
     {
         let mut paid = 0u64;
         let mut reversed = 0u64;
@@ -119,7 +126,8 @@ impl Ledger {
 
     /// Takes a ruling of this number, and gives what it moved.
     fn take(&mut self, number: u64, ruling: Move) -> Result<Moved, ReportFault>
-        ensures { IfOk result (λ moved. Takes self.old self.new ruling moved) }
+        ensures takes { IfOk result (λ moved. Takes self.old self.new ruling moved) }
+        ensures refuses { RefusesFor result (taking_cause self.old number ruling) }
     {
         match ruling {
             Move::Paid(auth, cents) => self.pay(number, auth, cents),
@@ -129,7 +137,8 @@ impl Ledger {
 
     /// Takes a payment.
     fn pay(&mut self, number: u64, auth: u64, cents: u64) -> Result<Moved, ReportFault>
-        ensures { IfOk result (λ moved. Pays self.old self.new auth cents moved) }
+        ensures pays { IfOk result (λ moved. Pays self.old self.new auth cents moved) }
+        ensures refuses { RefusesFor result (taking_cause self.old number (PaidSeen auth cents)) }
     {
         if self.payments.contains_key(&auth) {
             return Err(ReportFault::PaidAgain(number));
@@ -151,7 +160,8 @@ impl Ledger {
 
     /// Takes a reversal.
     fn reverse(&mut self, number: u64, auth: u64) -> Result<Moved, ReportFault>
-        ensures { IfOk result (λ moved. Reverses self.old self.new auth moved) }
+        ensures reverses { IfOk result (λ moved. Reverses self.old self.new auth moved) }
+        ensures refuses { RefusesFor result (taking_cause self.old number (ReversedSeen auth)) }
     {
         let Some(cents) = self.standing_at(auth) else {
             return Err(ReportFault::NotStanding(number));

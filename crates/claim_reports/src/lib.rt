@@ -8,6 +8,7 @@ mod clock;
 mod comparing;
 mod fault;
 mod ledger;
+mod naming;
 mod numbers;
 mod receipts;
 mod remitting;

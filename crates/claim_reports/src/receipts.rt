@@ -1,11 +1,13 @@
 //! What hosts told callers, beside the tables of a run.
 
-ghost use Rattle.std.specs.Prelude.{◌≡◌, ◌++◌, ℕ, option_map, IfOk, OnOk};
+ghost use Rattle.std.specs.Prelude.{◌≡◌, ◌++◌, ℕ, option_map, IfErr, IfOk, OnOk};
 ghost use Rattle.std.specs.Ordering.{nat_cmp};
 ghost use Rattle.std.specs.BTreeMap.{get};
 ghost use Rattle.table_text.specs.Adding.{Adds, AddsRow};
 ghost use Rattle.table_text.specs.declared.layout.Style.TheVariants.{Csv};
-ghost use Rattle.claim_reports.specs.Received.{sent_under, is_answer, receipt_finding, finding_row, row_if, receipt_rows, is_nothing_found, IsReceived};
+ghost use Rattle.claim_reports.specs.declared.fault.ReportFault.TheVariants.{OutOfMemory};
+ghost use Rattle.claim_reports.specs.Causes.{RefusesFor};
+ghost use Rattle.claim_reports.specs.Received.{received_cause, sent_under, is_answer, receipt_finding, finding_row, row_if, receipt_rows, is_nothing_found, IsReceived};
 
 use crate::beside::{Entry, entries_by_number};
 use crate::comparing::Comparison;
@@ -29,7 +31,10 @@ pub fn receipts_beside(
     pharmacy: u64,
 ) -> Result<Comparison, ReportFault>
     // What is written is, row by row, what is found of the receipts that a reader of CSV finds in the table beside the run's.
-    ensures { IfOk result (λ told. IsReceived receipts.now entries.now packets.now pharmacy told.text.items told.agrees) }
+    ensures made { IfOk result (λ told.
+        IsReceived receipts.now entries.now packets.now pharmacy told.text.items told.agrees) }
+    // It is refused for the first fault of the tables or for want of memory, and for nothing else.
+    ensures refuses { RefusesFor result (received_cause receipts.now entries.now packets.now pharmacy) }
 {
     let entries = entries_in(alloc, entries, pharmacy)?;
     let sent = sent_in(alloc, packets, pharmacy)?;
@@ -45,7 +50,8 @@ pub fn receipts_beside(
 
 /// Answers by the numbers of their entries.
 fn sent_by_number(alloc: Global, sent: Vec<Reply>) -> Result<BTreeMap<u64, Reply>, ReportFault>
-    ensures { IfOk result (λ by. (number : ℕ) → get nat_cmp by number ≡ sent_under number sent.items) }
+    ensures under { IfOk result (λ by. (number : ℕ) → get nat_cmp by number ≡ sent_under number sent.items) }
+    ensures memory { IfErr result (λ e. e ≡ OutOfMemory) }
 {
     let mut by = BTreeMap::new(alloc);
     for reply in sent {

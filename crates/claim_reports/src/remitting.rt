@@ -6,8 +6,9 @@ ghost use Rattle.table_text.specs.Adding.{Adds, AddsRow};
 ghost use Rattle.table_text.specs.Rows.{head_text};
 ghost use Rattle.table_text.specs.Seen.{field_seen};
 ghost use Rattle.table_text.specs.declared.layout.Style.TheVariants.{Csv};
-ghost use Rattle.claim_reports.specs.RulingsSeen.{line_seen, lines_seen};
-ghost use Rattle.claim_reports.specs.Remitted.{kind_of, auth_of, cents_of, numbers_of, line_names, line_row, AddsLine, AddsLines, IsRemitted, sum_names, sums_row, IsSummed};
+ghost use Rattle.claim_reports.specs.Causes.{RefusesFor, bad_at};
+ghost use Rattle.claim_reports.specs.RulingsSeen.{lines_placed, line_seen, lines_seen};
+ghost use Rattle.claim_reports.specs.Remitted.{numbers_bad, remitted_cause, remitting_cause, summed_cause, kind_of, auth_of, cents_of, numbers_of, line_names, line_row, AddsLine, AddsLines, IsRemitted, sum_names, sums_row, IsSummed};
 ghost use Rattle.claim_reports.specs.NumbersSeen.{numbers_seen};
 
 use crate::fault::ReportFault;
@@ -32,7 +33,9 @@ pub fn remittance_lines(
     asked: &Remittance,
 ) -> Result<Vec<u8>, ReportFault>
     // What is written is, row by row, the rulings that a reader of CSV finds in the table.
-    ensures { IfOk result (λ text. IsRemitted rows.now asked.now text.items) }
+    ensures made { IfOk result (λ text. IsRemitted rows.now asked.now text.items) }
+    // It is refused for the first fault of the table, then of its rulings, or for want of memory, and for nothing else.
+    ensures refuses { RefusesFor result (remitted_cause rows.now asked.now) }
 {
     let table = Table::read(alloc, 1, rows)?;
     let columns = RulingColumns::of(&table)?;
@@ -62,7 +65,10 @@ pub fn remittance_sums(
     asked: &Remittance,
 ) -> Result<Vec<u8>, ReportFault>
     // What is written is the sums of the rulings that a reader of CSV finds in the table.
-    ensures { IfOk result (λ text. IsSummed rows.now asked.now text.items) }
+    ensures made { IfOk result (λ text. IsSummed rows.now asked.now text.items) }
+    // It is refused for the first fault of the table, then of its rulings, then for sums that are too large, or for want of
+    // memory, and for nothing else.
+    ensures refuses { RefusesFor result (summed_cause rows.now asked.now) }
 {
     let table = Table::read(alloc, 1, rows)?;
     let columns = RulingColumns::of(&table)?;
@@ -86,7 +92,9 @@ fn put_lines(
     before: &[Move],
     lines: &[Line<'_>],
 ) -> Result<(), ReportFault>
-    ensures { OnOk result (AddsLines columns.now asked.now before.now (lines_seen lines.now) out.old.items out.new.items) }
+    ensures adds { OnOk result
+        (AddsLines columns.now asked.now before.now (lines_seen lines.now) out.old.items out.new.items) }
+    ensures refuses { RefusesFor result (remitting_cause columns.now before.now (lines_placed lines.now)) }
 {
     let mut ledger = Ledger::new(*out.allocator());
     let mut passed = before.len() as u64;
@@ -108,7 +116,10 @@ fn put_line(
     line: &Line<'_>,
     reversed: u64,
 ) -> Result<(), ReportFault>
-    ensures { OnOk result (AddsLine columns.now asked.now reversed (line_seen line.now) out.old.items out.new.items) }
+    ensures adds { OnOk result
+        (AddsLine columns.now asked.now reversed (line_seen line.now) out.old.items out.new.items) }
+    ensures refuses { RefusesFor result (bad_at line.now.row.table line.now.row.number
+        (numbers_bad columns.now (line_seen line.now).row)) }
 {
     let numbers = Numbers::of(&line.row, columns)?;
     let digits = auth_text(*out.allocator(), auth_of(line.moves))?;
@@ -136,8 +147,12 @@ struct Numbers {
 
 impl Numbers {
     /// Those of a row.
+    #[tactic(auto, unfolding(crate::specs::Remitted::numbers_bad))]
     fn of(row: &TableRow<'_>, columns: &RulingColumns) -> Result<Numbers, ReportFault>
-        ensures { IfOk result (λ numbers. numbers_of columns.now (fields_of row.now.record.now) ≡ Some (numbers_seen numbers)) }
+        ensures read { IfOk result (λ numbers.
+            numbers_of columns.now (fields_of row.now.record.now) ≡ Some (numbers_seen numbers)) }
+        ensures refuses { RefusesFor result
+            (bad_at row.now.table row.now.number (numbers_bad columns.now (fields_of row.now.record.now))) }
     {
         Ok(Numbers {
             number: row.number(columns.number)?,

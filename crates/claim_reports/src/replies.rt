@@ -3,9 +3,11 @@
 ghost use Rattle.std.specs.Prelude.{◌≡◌, ◌++◌, drop, map, Some, IfOk, OnOk};
 ghost use Rattle.csv.specs.Records.{fields_of};
 ghost use Rattle.claim_reports.specs.Tables.{given};
-ghost use Rattle.claim_reports.specs.Received.{ArePacketColumns, AreReceiptColumns, spelled_in, node_name, answer_of, is_answer_to, sent_in, receipt_of, receipt_in, AreSent, AreReceipts};
+ghost use Rattle.claim_reports.specs.Causes.{RefusesFor, bad_at, records_of};
+ghost use Rattle.claim_reports.specs.Received.{packet_columns_in, receipt_columns_in, packets_missing, receipts_missing, bad_spelling, answer_bad, sent_bad, told_bad, receipt_bad, packets_cause, receipts_cause, ArePacketColumns, AreReceiptColumns, spelled_in, node_name, answer_of, is_answer_to, sent_in, receipt_of, receipt_in, AreSent, AreReceipts};
 
 use crate::fault::ReportFault;
+use crate::naming::Name;
 use crate::table::{Column, Table, TableRow};
 use input_text::{PrintedFault, put_decimal, unprint};
 use std::alloc::{AllocError, Global};
@@ -72,7 +74,8 @@ impl Reply {
 
 /// The answers that were sent to a pharmacy, by the third table.
 pub(crate) fn sent_in(alloc: Global, text: &[u8], pharmacy: u64) -> Result<Vec<Reply>, ReportFault>
-    ensures { IfOk result (λ sent. AreSent pharmacy text.now sent.items) }
+    ensures read { IfOk result (λ sent. AreSent pharmacy text.now sent.items) }
+    ensures refuses { RefusesFor result (packets_cause pharmacy (records_of text.now)) }
 {
     let table = Table::read(alloc, 3, text)?;
     let columns = PacketColumns::of(&table)?;
@@ -92,7 +95,8 @@ pub(crate) fn receipts_in(
     text: &[u8],
     pharmacy: u64,
 ) -> Result<Vec<Reply>, ReportFault>
-    ensures { IfOk result (λ receipts. AreReceipts pharmacy text.now receipts.items) }
+    ensures read { IfOk result (λ receipts. AreReceipts pharmacy text.now receipts.items) }
+    ensures refuses { RefusesFor result (receipts_cause pharmacy (records_of text.now)) }
 {
     let table = Table::read(alloc, 1, text)?;
     let columns = ReceiptColumns::of(&table)?;
@@ -105,7 +109,7 @@ pub(crate) fn receipts_in(
 }
 
 /// Adds what a row gives, where it gives something.
-fn add(list: &mut Vec<Reply>, one: Option<Reply>) -> Result<(), ReportFault>
+fn add(list: &mut Vec<Reply>, one: Option<Reply>) -> Result<(), AllocError>
     ensures { OnOk result (list.new.items ≡ list.old.items ++ given one) }
 {
     match one {
@@ -129,7 +133,9 @@ fn node_name(alloc: Global, pharmacy: u64) -> Result<Vec<u8>, AllocError>
 
 /// The bytes that a column spells.
 fn bytes_of(alloc: Global, row: &TableRow<'_>, column: Column) -> Result<Vec<u8>, ReportFault>
-    ensures { IfOk result (λ bytes. spelled_in column.place (fields_of row.now.record.now) ≡ Some bytes.items) }
+    ensures read { IfOk result (λ bytes. spelled_in column.place (fields_of row.now.record.now) ≡ Some bytes.items) }
+    ensures refuses { RefusesFor result
+        (bad_at row.now.table row.now.number (bad_spelling column (fields_of row.now.record.now))) }
 {
     match unprint(alloc, row.text(column)) {
         Ok(bytes) => Ok(bytes),
@@ -151,20 +157,23 @@ fn behind_head(bytes: &[u8]) -> &[u8]
 
 impl PacketColumns {
     /// Those of a table.
+    #[tactic(auto, unfolding(crate::specs::Received::packets_missing))]
     fn of(table: &Table) -> Result<PacketColumns, ReportFault>
-        ensures { IfOk result (λ columns. ArePacketColumns (map fields_of table.now.records.items) columns) }
+        ensures read { IfOk result (λ columns. ArePacketColumns (map fields_of table.now.records.items) columns) }
+        ensures are { IfOk result (λ columns. columns ≡ packet_columns_in (map fields_of table.now.records.items)) }
+        ensures refuses { RefusesFor result (packets_missing table.now.number (map fields_of table.now.records.items)) }
     {
         Ok(PacketColumns {
-            to: table.column("to")?,
-            carries: table.column("carries")?,
-            pharmacy: table.column("pharmacy")?,
-            number: table.column("number")?,
-            bytes: table.column("bytes")?,
+            to: table.column(Name::To)?,
+            carries: table.column(Name::Carries)?,
+            pharmacy: table.column(Name::Pharmacy)?,
+            number: table.column(Name::Number)?,
+            bytes: table.column(Name::Bytes)?,
         })
     }
 
     /// The answer of a packet to the node of a pharmacy, where it is one of the pharmacy's own.
-    #[tactic(auto, unfolding(crate::specs::Received::sent_in))]
+    #[tactic(auto, unfolding(crate::specs::Received::sent_in, crate::specs::Received::sent_bad))]
     fn sent(
         &self,
         alloc: Global,
@@ -172,7 +181,9 @@ impl PacketColumns {
         node: &[u8],
         pharmacy: u64,
     ) -> Result<Option<Reply>, ReportFault>
-        ensures { IfOk result (λ sent. sent_in self.now node.now pharmacy (fields_of row.now.record.now) ≡ Some sent) }
+        ensures read { IfOk result (λ sent. sent_in self.now node.now pharmacy (fields_of row.now.record.now) ≡ Some sent) }
+        ensures refuses { RefusesFor result
+            (bad_at row.now.table row.now.number (sent_bad node.now pharmacy self.now (fields_of row.now.record.now))) }
     {
         if !self.is_answer_to(row, node) {
             return Ok(None);
@@ -191,8 +202,11 @@ impl PacketColumns {
     }
 
     /// The answer of a packet.
+    #[tactic(auto, unfolding(crate::specs::Received::answer_bad))]
     fn answer(&self, alloc: Global, row: &TableRow<'_>) -> Result<Reply, ReportFault>
-        ensures { IfOk result (λ answer. answer_of self.now (fields_of row.now.record.now) ≡ Some answer) }
+        ensures read { IfOk result (λ answer. answer_of self.now (fields_of row.now.record.now) ≡ Some answer) }
+        ensures refuses { RefusesFor result
+            (bad_at row.now.table row.now.number (answer_bad self.now (fields_of row.now.record.now))) }
     {
         let number = row.number(self.number)?;
         let bytes = bytes_of(alloc, row, self.bytes)?;
@@ -203,25 +217,30 @@ impl PacketColumns {
 
 impl ReceiptColumns {
     /// Those of a table.
+    #[tactic(auto, unfolding(crate::specs::Received::receipts_missing))]
     fn of(table: &Table) -> Result<ReceiptColumns, ReportFault>
-        ensures { IfOk result (λ columns. AreReceiptColumns (map fields_of table.now.records.items) columns) }
+        ensures read { IfOk result (λ columns. AreReceiptColumns (map fields_of table.now.records.items) columns) }
+        ensures are { IfOk result (λ columns. columns ≡ receipt_columns_in (map fields_of table.now.records.items)) }
+        ensures refuses { RefusesFor result (receipts_missing table.now.number (map fields_of table.now.records.items)) }
     {
         Ok(ReceiptColumns {
-            pharmacy: table.column("pharmacy")?,
-            number: table.column("number")?,
-            answer: table.column("answer")?,
+            pharmacy: table.column(Name::Pharmacy)?,
+            number: table.column(Name::Number)?,
+            answer: table.column(Name::Answer)?,
         })
     }
 
     /// What a caller of a pharmacy was told, by a row of it.
-    #[tactic(auto, unfolding(crate::specs::Received::receipt_in))]
+    #[tactic(auto, unfolding(crate::specs::Received::receipt_in, crate::specs::Received::receipt_bad))]
     fn receipt(
         &self,
         alloc: Global,
         row: &TableRow<'_>,
         pharmacy: u64,
     ) -> Result<Option<Reply>, ReportFault>
-        ensures { IfOk result (λ receipt. receipt_in self.now pharmacy (fields_of row.now.record.now) ≡ Some receipt) }
+        ensures read { IfOk result (λ receipt. receipt_in self.now pharmacy (fields_of row.now.record.now) ≡ Some receipt) }
+        ensures refuses { RefusesFor result
+            (bad_at row.now.table row.now.number (receipt_bad pharmacy self.now (fields_of row.now.record.now))) }
     {
         if row.number(self.pharmacy)? != pharmacy {
             return Ok(None);
@@ -230,8 +249,11 @@ impl ReceiptColumns {
     }
 
     /// What a caller was told.
+    #[tactic(auto, unfolding(crate::specs::Received::told_bad))]
     fn told(&self, alloc: Global, row: &TableRow<'_>) -> Result<Reply, ReportFault>
-        ensures { IfOk result (λ told. receipt_of self.now (fields_of row.now.record.now) ≡ Some told) }
+        ensures read { IfOk result (λ told. receipt_of self.now (fields_of row.now.record.now) ≡ Some told) }
+        ensures refuses { RefusesFor result
+            (bad_at row.now.table row.now.number (told_bad self.now (fields_of row.now.record.now))) }
     {
         let number = row.number(self.number)?;
         let bytes = bytes_of(alloc, row, self.answer)?;

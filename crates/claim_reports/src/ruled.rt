@@ -1,8 +1,9 @@
 //! When a row of a payer's book was ruled, by the requests that payers took.
 
-ghost use Rattle.std.specs.Prelude.{◌≡◌, cond, find, map, option_map, None, Some, IfOk, OnOk};
+ghost use Rattle.std.specs.Prelude.{◌≡◌, cond, find, map, option_map, None, Some, IfErr, IfOk, OnOk};
 ghost use Rattle.std.specs.BTreeMap.{get};
 ghost use Rattle.std.specs.Option.{option_flatten, option_or};
+ghost use Rattle.claim_reports.specs.declared.fault.ReportFault.TheVariants.{OutOfMemory};
 ghost use Rattle.claim_reports.specs.declared.ruled.Request.{Request};
 ghost use Rattle.claim_reports.specs.declared.ruled.Taken.{Taken};
 ghost use Rattle.claim_reports.specs.Ruled.{request_cmp, is_of, ruled_at};
@@ -41,7 +42,9 @@ pub fn ruled_times(
     requests: &[Request],
 ) -> Result<Vec<Option<u64>>, ReportFault>
     // A payer rules at the first packet with a request: its time is that of the first in the list.
-    ensures { IfOk result (λ times. times.items ≡ map (ruled_at taken.now) requests.now) }
+    ensures times { IfOk result (λ times. times.items ≡ map (ruled_at taken.now) requests.now) }
+    // It is refused for want of memory alone.
+    ensures memory { IfErr result (λ e. e ≡ OutOfMemory) }
 {
     let first = first_times(alloc, taken)?;
     let mut times = Vec::new(alloc);
@@ -56,8 +59,9 @@ fn first_times(
     alloc: Global,
     taken: &[Taken],
 ) -> Result<BTreeMap<Request, Option<u64>>, ReportFault>
-    ensures { IfOk result (λ first. (request : Request)
+    ensures first { IfOk result (λ first. (request : Request)
         → get request_cmp first request ≡ option_map (λ (t : Taken). t.time) (find (is_of request) taken.now)) }
+    ensures memory { IfErr result (λ e. e ≡ OutOfMemory) }
 {
     let mut first = BTreeMap::new(alloc);
     for packet in taken {
@@ -68,8 +72,9 @@ fn first_times(
 
 /// Adds the time of a packet, unless there is one of its request.
 fn add(first: &mut BTreeMap<Request, Option<u64>>, packet: &Taken) -> Result<(), ReportFault>
-    ensures { OnOk result ((request : Request) → get request_cmp first.new request
+    ensures adds { OnOk result ((request : Request) → get request_cmp first.new request
         ≡ option_or (get request_cmp first.old request) (cond (is_of request packet.now) (Some packet.now.time) None)) }
+    ensures memory { IfErr result (λ e. e ≡ OutOfMemory) }
 {
     if first.contains_key(&packet.request) {
         return Ok(());

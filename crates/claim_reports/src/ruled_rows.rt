@@ -1,13 +1,16 @@
 //! A table of rows or payments of payers, with when each was ruled.
 
-ghost use Rattle.std.specs.Prelude.{◌≡◌, ◌++◌, None, Some, get_or, map, IfOk, OnOk};
+ghost use Rattle.std.specs.Prelude.{◌≡◌, ◌++◌, None, Some, get_or, map, IfErr, IfOk, OnOk};
 ghost use Rattle.csv.specs.Records.{fields_of};
+ghost use Rattle.claim_reports.specs.declared.fault.ReportFault.TheVariants.{OutOfMemory};
 ghost use Rattle.claim_reports.specs.Digits.{time_text, day_text};
 ghost use Rattle.claim_reports.specs.Wider.{wider_text};
-ghost use Rattle.claim_reports.specs.WhenRuled.{AreNamed, AreRowColumns, AreCallColumns, request_to, request_in, payer_named, taken_by, taken_in, AreRequests, AreTaken, AddsRuled, AddsTimed, IsTimed, IsRuledTable};
+ghost use Rattle.claim_reports.specs.Causes.{RefusesFor, bad_at, records_of};
+ghost use Rattle.claim_reports.specs.WhenRuled.{named_in, row_columns_in, call_columns_in, named_missing, row_columns_missing, call_columns_missing, named_bad, request_bad, taken_by_bad, taken_bad, requests_cause, calls_cause, ruled_cause, AreNamed, AreRowColumns, AreCallColumns, request_to, request_in, payer_named, taken_by, taken_in, AreRequests, AreTaken, AddsRuled, AddsTimed, IsTimed, IsRuledTable};
 
 use crate::clock::{day_text, shown_at, time_text};
 use crate::fault::ReportFault;
+use crate::naming::Name;
 use crate::ruled::{Request, Taken, ruled_times};
 use crate::table::{Column, Table, TableRow, add};
 use crate::wider::put_wider;
@@ -15,12 +18,6 @@ use csv::ByteRecord;
 use input_text::read_decimal;
 use jiff::civil::DateTime;
 use std::alloc::Global;
-
-/// The column of the date and the time at which a row was ruled.
-const RULED_AT: &str = "ruled_at";
-
-/// The column of the day on which a row was ruled.
-pub(crate) const RULED_ON: &str = "ruled_on";
 
 /// The columns of a table that name a request.
 #[derive(Clone, Copy)]
@@ -53,11 +50,13 @@ struct CallColumns {
 pub fn ruled_table(alloc: Global, rows: &[u8], calls: &[u8]) -> Result<Vec<u8>, ReportFault>
     // What is written is, line by line, the records that a reader of CSV gives of the table, each row with the time of its own
     // ruling after it.
-    ensures { IfOk result (λ text. IsRuledTable rows.now calls.now text.items) }
+    ensures made { IfOk result (λ text. IsRuledTable rows.now calls.now text.items) }
+    // It is refused for the first fault of the tables or for want of memory, and for nothing else.
+    ensures refuses { RefusesFor result (ruled_cause rows.now calls.now) }
 {
     let table = Table::read(alloc, 1, rows)?;
-    table.lacks(RULED_AT)?;
-    table.lacks(RULED_ON)?;
+    table.lacks(Name::RuledAt)?;
+    table.lacks(Name::RuledOn)?;
     let requests = requests_of(alloc, &table)?;
     let taken = taken_in(alloc, calls)?;
     let times = ruled_times(alloc, taken.as_slice(), requests.as_slice())?;
@@ -66,7 +65,8 @@ pub fn ruled_table(alloc: Global, rows: &[u8], calls: &[u8]) -> Result<Vec<u8>, 
 
 /// The request of each row of a table.
 fn requests_of(alloc: Global, table: &Table) -> Result<Vec<Request>, ReportFault>
-    ensures { IfOk result (λ requests. AreRequests (map fields_of table.now.records.items) requests.items) }
+    ensures read { IfOk result (λ requests. AreRequests (map fields_of table.now.records.items) requests.items) }
+    ensures refuses { RefusesFor result (requests_cause table.now.number (map fields_of table.now.records.items)) }
 {
     let columns = RowColumns::of(table)?;
     let mut requests = Vec::new(alloc);
@@ -79,7 +79,8 @@ fn requests_of(alloc: Global, table: &Table) -> Result<Vec<Request>, ReportFault
 
 /// The packets with requests that payers took, by a table of `calls`.
 fn taken_in(alloc: Global, text: &[u8]) -> Result<Vec<Taken>, ReportFault>
-    ensures { IfOk result (λ taken. AreTaken text.now taken.items) }
+    ensures read { IfOk result (λ taken. AreTaken text.now taken.items) }
+    ensures refuses { RefusesFor result (calls_cause (records_of text.now)) }
 {
     let table = Table::read(alloc, 2, text)?;
     let columns = CallColumns::of(&table)?;
@@ -103,18 +104,24 @@ fn payer_named(node: &[u8]) -> Option<u64>
 
 impl Named {
     /// Those of a table.
+    #[tactic(auto, unfolding(crate::specs::WhenRuled::named_missing))]
     fn of(table: &Table) -> Result<Named, ReportFault>
-        ensures { IfOk result (λ columns. AreNamed (map fields_of table.now.records.items) columns) }
+        ensures read { IfOk result (λ columns. AreNamed (map fields_of table.now.records.items) columns) }
+        ensures are { IfOk result (λ columns. columns ≡ named_in (map fields_of table.now.records.items)) }
+        ensures refuses { RefusesFor result (named_missing table.now.number (map fields_of table.now.records.items)) }
     {
         Ok(Named {
-            pharmacy: table.column("pharmacy")?,
-            number: table.column("number")?,
+            pharmacy: table.column(Name::Pharmacy)?,
+            number: table.column(Name::Number)?,
         })
     }
 
     /// The request to a payer that a row names.
+    #[tactic(auto, unfolding(crate::specs::WhenRuled::named_bad))]
     fn request(&self, row: &TableRow<'_>, payer: u64) -> Result<Request, ReportFault>
-        ensures { IfOk result (λ request. request_to self.now payer (fields_of row.now.record.now) ≡ Some request) }
+        ensures read { IfOk result (λ request. request_to self.now payer (fields_of row.now.record.now) ≡ Some request) }
+        ensures refuses { RefusesFor result
+            (bad_at row.now.table row.now.number (named_bad self.now (fields_of row.now.record.now))) }
     {
         Ok(Request {
             payer,
@@ -126,18 +133,24 @@ impl Named {
 
 impl RowColumns {
     /// Those of a table.
+    #[tactic(auto, unfolding(crate::specs::WhenRuled::row_columns_missing))]
     fn of(table: &Table) -> Result<RowColumns, ReportFault>
-        ensures { IfOk result (λ columns. AreRowColumns (map fields_of table.now.records.items) columns) }
+        ensures read { IfOk result (λ columns. AreRowColumns (map fields_of table.now.records.items) columns) }
+        ensures are { IfOk result (λ columns. columns ≡ row_columns_in (map fields_of table.now.records.items)) }
+        ensures refuses { RefusesFor result (row_columns_missing table.now.number (map fields_of table.now.records.items)) }
     {
         Ok(RowColumns {
-            payer: table.column("payer")?,
+            payer: table.column(Name::Payer)?,
             named: Named::of(table)?,
         })
     }
 
     /// The request that a row is about.
+    #[tactic(auto, unfolding(crate::specs::WhenRuled::request_bad))]
     fn request(&self, row: &TableRow<'_>) -> Result<Request, ReportFault>
-        ensures { IfOk result (λ request. request_in self.now (fields_of row.now.record.now) ≡ Some request) }
+        ensures read { IfOk result (λ request. request_in self.now (fields_of row.now.record.now) ≡ Some request) }
+        ensures refuses { RefusesFor result
+            (bad_at row.now.table row.now.number (request_bad self.now (fields_of row.now.record.now))) }
     {
         let payer = row.number(self.payer)?;
         self.named.request(row, payer)
@@ -146,21 +159,26 @@ impl RowColumns {
 
 impl CallColumns {
     /// Those of a table.
+    #[tactic(auto, unfolding(crate::specs::WhenRuled::call_columns_missing))]
     fn of(table: &Table) -> Result<CallColumns, ReportFault>
-        ensures { IfOk result (λ columns. AreCallColumns (map fields_of table.now.records.items) columns) }
+        ensures read { IfOk result (λ columns. AreCallColumns (map fields_of table.now.records.items) columns) }
+        ensures are { IfOk result (λ columns. columns ≡ call_columns_in (map fields_of table.now.records.items)) }
+        ensures refuses { RefusesFor result (call_columns_missing table.now.number (map fields_of table.now.records.items)) }
     {
         Ok(CallColumns {
-            node: table.column("node")?,
-            time: table.column("time")?,
-            carries: table.column("carries")?,
+            node: table.column(Name::Node)?,
+            time: table.column(Name::Time)?,
+            carries: table.column(Name::Carries)?,
             named: Named::of(table)?,
         })
     }
 
     /// What a payer took by a call, where it is one with a request.
-    #[tactic(auto, unfolding(crate::specs::WhenRuled::taken_in))]
+    #[tactic(auto, unfolding(crate::specs::WhenRuled::taken_in, crate::specs::WhenRuled::taken_bad))]
     fn taken(&self, row: &TableRow<'_>) -> Result<Option<Taken>, ReportFault>
-        ensures { IfOk result (λ taken. taken_in self.now (fields_of row.now.record.now) ≡ Some taken) }
+        ensures read { IfOk result (λ taken. taken_in self.now (fields_of row.now.record.now) ≡ Some taken) }
+        ensures refuses { RefusesFor result
+            (bad_at row.now.table row.now.number (taken_bad self.now (fields_of row.now.record.now))) }
     {
         if row.text(self.carries) != b"request".as_slice() {
             return Ok(None);
@@ -169,8 +187,11 @@ impl CallColumns {
     }
 
     /// What this payer took by a call with a request.
+    #[tactic(auto, unfolding(crate::specs::WhenRuled::taken_by_bad))]
     fn taken_by(&self, payer: Option<u64>, row: &TableRow<'_>) -> Result<Option<Taken>, ReportFault>
-        ensures { IfOk result (λ taken. taken_by self.now payer (fields_of row.now.record.now) ≡ Some taken) }
+        ensures read { IfOk result (λ taken. taken_by self.now payer (fields_of row.now.record.now) ≡ Some taken) }
+        ensures refuses { RefusesFor result
+            (bad_at row.now.table row.now.number (taken_by_bad self.now payer (fields_of row.now.record.now))) }
     {
         let Some(payer) = payer else {
             return Ok(None);
@@ -188,12 +209,18 @@ fn with_times(
     records: &[ByteRecord],
     times: &[Option<u64>],
 ) -> Result<Vec<u8>, ReportFault>
-    ensures { IfOk result (λ text. IsTimed (map fields_of records.now) times.now text.items) }
+    ensures made { IfOk result (λ text. IsTimed (map fields_of records.now) times.now text.items) }
+    ensures memory { IfErr result (λ e. e ≡ OutOfMemory) }
 {
     let mut out = Vec::new(alloc);
     match records {
         [names, rows @ ..] => {
-            put_wider(&mut out, names, RULED_AT.as_bytes(), RULED_ON.as_bytes())?;
+            put_wider(
+                &mut out,
+                names,
+                Name::RuledAt.text().as_bytes(),
+                Name::RuledOn.text().as_bytes(),
+            )?;
             put_rows(&mut out, rows, times)?;
             Ok(out)
         }
@@ -207,7 +234,8 @@ fn put_rows(
     rows: &[ByteRecord],
     times: &[Option<u64>],
 ) -> Result<(), ReportFault>
-    ensures { OnOk result (AddsTimed out.old.items out.new.items (map fields_of rows.now) times.now) }
+    ensures adds { OnOk result (AddsTimed out.old.items out.new.items (map fields_of rows.now) times.now) }
+    ensures memory { IfErr result (λ e. e ≡ OutOfMemory) }
 {
     for (place, row) in rows.iter().enumerate() {
         put_ruled(out, row, time_at(times, place))?;
@@ -227,7 +255,8 @@ fn time_at(times: &[Option<u64>], place: usize) -> Option<u64>
 
 /// Appends the line of a row that was ruled at this time.
 fn put_ruled(out: &mut Vec<u8>, row: &ByteRecord, time: Option<u64>) -> Result<(), ReportFault>
-    ensures { OnOk result (AddsRuled out.old.items out.new.items (fields_of row.now) time) }
+    ensures adds { OnOk result (AddsRuled out.old.items out.new.items (fields_of row.now) time) }
+    ensures memory { IfErr result (λ e. e ≡ OutOfMemory) }
 {
     match time {
         Some(milliseconds) => put_moment(out, row, milliseconds),
@@ -237,7 +266,8 @@ fn put_ruled(out: &mut Vec<u8>, row: &ByteRecord, time: Option<u64>) -> Result<(
 
 /// Appends the line of a row that was ruled this many milliseconds after 1970 began.
 fn put_moment(out: &mut Vec<u8>, row: &ByteRecord, milliseconds: u64) -> Result<(), ReportFault>
-    ensures { OnOk result (AddsRuled out.old.items out.new.items (fields_of row.now) (Some milliseconds)) }
+    ensures adds { OnOk result (AddsRuled out.old.items out.new.items (fields_of row.now) (Some milliseconds)) }
+    ensures memory { IfErr result (λ e. e ≡ OutOfMemory) }
 {
     match shown_at(milliseconds) {
         Some(shown) => put_shown(out, row, shown),
@@ -247,8 +277,9 @@ fn put_moment(out: &mut Vec<u8>, row: &ByteRecord, milliseconds: u64) -> Result<
 
 /// Appends the line of a row that was ruled when a clock in UTC showed this.
 fn put_shown(out: &mut Vec<u8>, row: &ByteRecord, shown: DateTime) -> Result<(), ReportFault>
-    ensures { OnOk result (out.new.items ≡ out.old.items
+    ensures adds { OnOk result (out.new.items ≡ out.old.items
         ++ wider_text (fields_of row.now) (time_text shown) (day_text shown)) }
+    ensures memory { IfErr result (λ e. e ≡ OutOfMemory) }
 {
     let alloc = *out.allocator();
     let at = time_text(alloc, shown)?;

@@ -1,12 +1,15 @@
 //! The rulings of a payer's table of rows that move a pharmacy's money, before a period and in it.
 
-ghost use Rattle.std.specs.Prelude.{◌≡◌, ◌<◌, map, Some, IfOk, OnOk};
+ghost use Rattle.std.specs.Prelude.{◌≡◌, ◌<◌, ◌+◌, map, unwrap_or, None, Some, IfOk, OnOk};
 ghost use Rattle.csv.specs.Records.{fields_of};
-ghost use Rattle.claim_reports.specs.RulingsSeen.{lines_seen, ReadsRow, ReadsOwn, AddsRuling};
-ghost use Rattle.claim_reports.specs.Rulings.{AreRulingColumns, payment_of, reversal_of, move_of, move_to, AreRulings, moves_before, rulings_behind};
+ghost use Rattle.claim_reports.specs.Causes.{RefusesFor, bad_at, bad_number};
+ghost use Rattle.claim_reports.specs.Tables.{rows_of};
+ghost use Rattle.claim_reports.specs.RulingsSeen.{lines_placed, AddsPlaced, lines_seen, ReadsRow, ReadsOwn, AddsRuling};
+ghost use Rattle.claim_reports.specs.Rulings.{ruling_columns_in, ruling_columns_missing, payment_bad, move_bad, moved_bad, ruling_bad, rulings_bad, count_with, placed, placed_row, placed_from, placed_behind, AreRulingColumns, payment_of, reversal_of, move_of, move_to, AreRulings, moves_before, rulings_behind};
 
 use crate::fault::ReportFault;
 use crate::ledger::Move;
+use crate::naming::Name;
 use crate::table::{Column, Table, TableRow};
 use std::alloc::{AllocError, Global};
 
@@ -61,8 +64,12 @@ pub(crate) fn rulings_in<'a>(
     columns: &RulingColumns,
     asked: &Remittance,
 ) -> Result<Rulings<'a>, ReportFault>
-    ensures { IfOk result (λ rulings. AreRulings asked.now (map fields_of table.now.records.items) columns.now
+    ensures read { IfOk result (λ rulings. AreRulings asked.now (map fields_of table.now.records.items) columns.now
         (lines_seen rulings.lines.items) rulings.up_to) }
+    ensures placed { IfOk result (λ rulings. lines_placed rulings.lines.items
+        ≡ placed_from table.now.number columns.now asked.now 0 1 (rows_of (map fields_of table.now.records.items))) }
+    ensures refuses { RefusesFor result
+        (rulings_bad table.now.number columns.now asked.now 0 1 (rows_of (map fields_of table.now.records.items))) }
 {
     let mut rulings = Rulings {
         lines: Vec::new(alloc),
@@ -98,7 +105,8 @@ pub(crate) fn lines_behind<'a>(
     lines: &[Line<'a>],
     after: u64,
 ) -> Result<Vec<Line<'a>>, AllocError>
-    ensures { IfOk result (λ behind. lines_seen behind.items ≡ rulings_behind after (lines_seen lines.now)) }
+    ensures read { IfOk result (λ behind. lines_seen behind.items ≡ rulings_behind after (lines_seen lines.now)) }
+    ensures placed { IfOk result (λ behind. lines_placed behind.items ≡ placed_behind after (lines_placed lines.now)) }
 {
     let mut behind = Vec::new(alloc);
     for line in lines {
@@ -122,14 +130,20 @@ pub(crate) fn moves_of(alloc: Global, lines: &[Line<'_>]) -> Result<Vec<Move>, A
 
 impl<'a> Rulings<'a> {
     /// Takes a row of the table.
-    #[tactic(auto, unfolding(crate::specs::Rulings::read_row))]
+    #[tactic(auto, unfolding(crate::specs::Rulings::read_row, crate::specs::Rulings::ruling_bad, crate::specs::Rulings::placed_row, crate::specs::Rulings::count_with))]
     fn take_row(
         &mut self,
         row: TableRow<'a>,
         columns: &RulingColumns,
         asked: &Remittance,
     ) -> Result<(), ReportFault>
-        ensures { OnOk result (ReadsRow columns.now asked.now (fields_of row.entry.record.now) self.old self.new) }
+        ensures read { OnOk result (ReadsRow columns.now asked.now (fields_of row.entry.record.now) self.old self.new) }
+        ensures placed { OnOk result (AddsPlaced self.old.lines.items self.new.lines.items
+            (placed_row row.entry.table columns.now asked.now self.old.up_to row.entry.number (fields_of row.entry.record.now))) }
+        ensures count { OnOk result
+            (self.new.up_to ≡ count_with columns.now asked.now self.old.up_to (fields_of row.entry.record.now)) }
+        ensures refuses { RefusesFor result (bad_at row.entry.table row.entry.number
+            (ruling_bad columns.now asked.now self.old.up_to (fields_of row.entry.record.now))) }
     {
         if row.number(columns.payer)? != asked.payer {
             return Ok(());
@@ -148,7 +162,14 @@ impl<'a> Rulings<'a> {
         asked: &Remittance,
     ) -> Result<(), ReportFault>
         requires { self.old.up_to < asked.now.up_to }
-        ensures { OnOk result (ReadsOwn columns.now asked.now.pharmacy (fields_of row.entry.record.now) self.old self.new) }
+        ensures read { OnOk result
+            (ReadsOwn columns.now asked.now.pharmacy (fields_of row.entry.record.now) self.old self.new) }
+        ensures placed { OnOk result (AddsPlaced self.old.lines.items self.new.lines.items
+            (placed row.entry.table row.entry.number (self.old.up_to + 1) (fields_of row.entry.record.now)
+            (unwrap_or (move_to columns.now asked.now.pharmacy (fields_of row.entry.record.now)) None))) }
+        ensures count { OnOk result (self.new.up_to ≡ self.old.up_to + 1) }
+        ensures refuses { RefusesFor result (bad_at row.entry.table row.entry.number
+            (moved_bad columns.now asked.now.pharmacy (fields_of row.entry.record.now))) }
     {
         let moves = columns.move_to(&row, asked.pharmacy)?;
         let ruling = self.up_to + 1;
@@ -165,7 +186,9 @@ fn put_line<'a>(
     ruling: u64,
     moves: Option<Move>,
 ) -> Result<(), AllocError>
-    ensures { OnOk result (AddsRuling lines.old.items lines.new.items ruling (fields_of row.entry.record.now) moves) }
+    ensures read { OnOk result (AddsRuling lines.old.items lines.new.items ruling (fields_of row.entry.record.now) moves) }
+    ensures placed { OnOk result (AddsPlaced lines.old.items lines.new.items
+        (placed row.entry.table row.entry.number ruling (fields_of row.entry.record.now) moves)) }
 {
     match moves {
         Some(moves) => {
@@ -178,25 +201,32 @@ fn put_line<'a>(
 
 impl RulingColumns {
     /// Those of a table.
+    #[tactic(auto, unfolding(crate::specs::Rulings::ruling_columns_missing))]
     pub(crate) fn of(table: &Table) -> Result<RulingColumns, ReportFault>
-        ensures { IfOk result (λ columns. AreRulingColumns (map fields_of table.now.records.items) columns) }
+        ensures read { IfOk result (λ columns. AreRulingColumns (map fields_of table.now.records.items) columns) }
+        ensures are { IfOk result (λ columns. columns ≡ ruling_columns_in (map fields_of table.now.records.items)) }
+        ensures refuses { RefusesFor result
+            (ruling_columns_missing table.now.number (map fields_of table.now.records.items)) }
     {
         Ok(RulingColumns {
-            payer: table.column("payer")?,
-            pharmacy: table.column("pharmacy")?,
-            number: table.column("number")?,
-            transaction: table.column("transaction")?,
-            ruling: table.column("ruling")?,
-            auth: table.column("authorization")?,
-            prescription: table.column("prescription")?,
-            day: table.column("date_of_service")?,
-            cents: table.column("paid_cents")?,
+            payer: table.column(Name::Payer)?,
+            pharmacy: table.column(Name::Pharmacy)?,
+            number: table.column(Name::Number)?,
+            transaction: table.column(Name::Transaction)?,
+            ruling: table.column(Name::Ruling)?,
+            auth: table.column(Name::Authorization)?,
+            prescription: table.column(Name::Prescription)?,
+            day: table.column(Name::DateOfService)?,
+            cents: table.column(Name::PaidCents)?,
         })
     }
 
     /// What the ruling of a row moves, if it is one of the pharmacy's and moves anything.
+    #[tactic(auto, unfolding(crate::specs::Rulings::moved_bad))]
     fn move_to(&self, row: &TableRow<'_>, pharmacy: u64) -> Result<Option<Move>, ReportFault>
-        ensures { IfOk result (λ moves. move_to self.now pharmacy (fields_of row.now.record.now) ≡ Some moves) }
+        ensures read { IfOk result (λ moves. move_to self.now pharmacy (fields_of row.now.record.now) ≡ Some moves) }
+        ensures refuses { RefusesFor result
+            (bad_at row.now.table row.now.number (moved_bad self.now pharmacy (fields_of row.now.record.now))) }
     {
         if row.number(self.pharmacy)? != pharmacy {
             return Ok(None);
@@ -205,9 +235,11 @@ impl RulingColumns {
     }
 
     /// What the ruling of a row moves, if it moves anything.
-    #[tactic(auto, unfolding(crate::specs::Rulings::move_of))]
+    #[tactic(auto, unfolding(crate::specs::Rulings::move_of, crate::specs::Rulings::move_bad))]
     fn move_of(&self, row: &TableRow<'_>) -> Result<Option<Move>, ReportFault>
-        ensures { IfOk result (λ moves. move_of self.now (fields_of row.now.record.now) ≡ Some moves) }
+        ensures read { IfOk result (λ moves. move_of self.now (fields_of row.now.record.now) ≡ Some moves) }
+        ensures refuses { RefusesFor result
+            (bad_at row.now.table row.now.number (move_bad self.now (fields_of row.now.record.now))) }
     {
         let word = row.text(self.ruling);
         if word == b"paid".as_slice() {
@@ -226,8 +258,11 @@ impl RulingColumns {
     }
 
     /// What a payment moves.
+    #[tactic(auto, unfolding(crate::specs::Rulings::payment_bad))]
     fn payment_of(&self, row: &TableRow<'_>) -> Result<Option<Move>, ReportFault>
-        ensures { IfOk result (λ moves. payment_of self.now (fields_of row.now.record.now) ≡ Some moves) }
+        ensures read { IfOk result (λ moves. payment_of self.now (fields_of row.now.record.now) ≡ Some moves) }
+        ensures refuses { RefusesFor result
+            (bad_at row.now.table row.now.number (payment_bad self.now (fields_of row.now.record.now))) }
     {
         let auth = row.number(self.auth)?;
         let cents = row.number(self.cents)?;
@@ -236,7 +271,9 @@ impl RulingColumns {
 
     /// What a reversal moves.
     fn reversal_of(&self, row: &TableRow<'_>) -> Result<Option<Move>, ReportFault>
-        ensures { IfOk result (λ moves. reversal_of self.now (fields_of row.now.record.now) ≡ Some moves) }
+        ensures read { IfOk result (λ moves. reversal_of self.now (fields_of row.now.record.now) ≡ Some moves) }
+        ensures refuses { RefusesFor result
+            (bad_at row.now.table row.now.number (bad_number self.now.auth (fields_of row.now.record.now))) }
     {
         let auth = row.number(self.auth)?;
         Ok(Some(Move::Reversed(auth)))

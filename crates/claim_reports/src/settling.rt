@@ -1,6 +1,8 @@
 //! What a payer sends a pharmacy for a period.
 
 ghost use Rattle.std.specs.Prelude.{◌≡◌, ◌+◌, min, IfOk};
+ghost use Rattle.claim_reports.specs.Causes.{RefusesFor};
+ghost use Rattle.claim_reports.specs.Ledger.{over};
 
 use crate::fault::ReportFault;
 use crate::ledger::Moved;
@@ -23,6 +25,8 @@ pub fn settle(moved: Moved, owed: u64) -> Result<Settled, ReportFault>
     ensures whole { IfOk result (λ settled. settled.check + (moved.reversed + owed) ≡ moved.paid + settled.owed) }
     // Nothing is sent while something is owed.
     ensures one { IfOk result (λ settled. min settled.check settled.owed ≡ 0) }
+    // It is refused where what was reversed and what was owed come to more than 64 bits, and for nothing else.
+    ensures refuses { RefusesFor result (over (moved.reversed + owed)) }
 {
     let Some(back) = moved.reversed.checked_add(owed) else {
         return Err(ReportFault::TooLarge);

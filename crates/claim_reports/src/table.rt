@@ -1,11 +1,15 @@
 //! Tables as they are read: rows of fields under the names of columns.
 
-ghost use Rattle.std.specs.Prelude.{◌≡◌, ℕ, ◌++◌, List, map, IfOk, OnOk, Some, None, bytes_eq};
+ghost use Rattle.std.specs.Prelude.{◌≡◌, ℕ, ◌+◌, ◌<◌, ◌^◌, ◌++◌, List, length, map, IfOk, OnOk, IfErr, OnErr, Some, None, bytes_eq};
 ghost use Rattle.std.specs.List.{position_from};
+ghost use Rattle.csv.specs.Reading.{error_kind};
 ghost use Rattle.csv.specs.Records.{fields_of};
 ghost use Rattle.claim_reports.specs.Tables.{AreRecordsOf, rows_of, column_of, cell, number_in, optional_in, word_in, given};
+ghost use Rattle.claim_reports.specs.Names.{name_text};
+ghost use Rattle.claim_reports.specs.Causes.{BadValue as IsBad, NoColumn as Lacks, RefusesFor, bad_at, bad_number, bad_optional, bad_word, cause_of, column_in, missing, present, records_of, unequal, uneven};
 
 use crate::fault::ReportFault;
+use crate::naming::Name;
 use crate::wider::field_at;
 use csv::{ByteRecord, Error, ErrorKind, ReaderBuilder};
 use input_text::read_decimal;
@@ -26,7 +30,7 @@ pub(crate) struct Table {
 #[derive(Clone, Copy)]
 pub(crate) struct Column {
     place: usize,
-    name: &'static str,
+    name: Name,
 }
 
 /// A row of a table.
@@ -41,8 +45,11 @@ pub(crate) struct TableRow<'a> {
 /// The records of a text of CSV, the names among them.
 fn records_of(alloc: Global, number: u64, text: &[u8]) -> Result<Vec<ByteRecord>, ReportFault>
     // They are those that a reader of CSV gives, each and in order.
-    ensures { IfOk result (λ records.
+    ensures read { IfOk result (λ records.
         AreRecordsOf text.now (map fields_of records.items)) }
+    ensures all { IfOk result (λ records.
+        records_of text.now ≡ map fields_of records.items) }
+    ensures refuses { RefusesFor result (uneven number (records_of text.now)) }
 {
     let reader = ReaderBuilder::new()
         .has_headers(false)
@@ -57,31 +64,41 @@ fn records_of(alloc: Global, number: u64, text: &[u8]) -> Result<Vec<ByteRecord>
     Ok(records)
 }
 
-/// Why a text is no table of this number.
-fn fault_of(number: u64, fault: &Error) -> ReportFault {
+/// Why a text is no table of this number. Bytes that are in memory are read without a fault of their own, which the library does
+/// not promise: it would be told as want of memory.
+fn fault_of(number: u64, fault: &Error) -> ReportFault
+    ensures { cause_of result ≡ unequal number (error_kind fault.now) }
+{
     match fault.kind() {
-        ErrorKind::OutOfMemory => ReportFault::OutOfMemory,
-        _ => ReportFault::NotCsv(number),
+        ErrorKind::UnequalLengths { .. } => ReportFault::NotCsv(number),
+        _ => ReportFault::OutOfMemory,
     }
 }
 
 impl Table {
     /// The table of this number among those that were given.
     pub(crate) fn read(alloc: Global, number: u64, text: &[u8]) -> Result<Table, ReportFault>
-        ensures { IfOk result (λ table.
+        ensures read { IfOk result (λ table.
             AreRecordsOf text.now (map fields_of table.records.items)) }
+        ensures all { IfOk result (λ table.
+            records_of text.now ≡ map fields_of table.records.items) }
+        ensures number { IfOk result (λ table. table.number ≡ number) }
+        ensures refuses { RefusesFor result (uneven number (records_of text.now)) }
     {
         let records = records_of(alloc, number, text)?;
         Ok(Table { number, records })
     }
 
     /// The column of a name.
-    pub(crate) fn column(&self, name: &'static str) -> Result<Column, ReportFault>
-        ensures { IfOk result (λ column. column_of (map fields_of self.now.records.items) name.now ≡ Some column.place) }
+    pub(crate) fn column(&self, name: Name) -> Result<Column, ReportFault>
+        ensures read { IfOk result (λ column.
+            column_of (map fields_of self.now.records.items) (name_text name) ≡ Some column.place) }
+        ensures is { IfOk result (λ column. column ≡ column_in (map fields_of self.now.records.items) name) }
+        ensures refuses { RefusesFor result (missing self.now.number (map fields_of self.now.records.items) name) }
     {
-        match self.place(name.as_bytes()) {
+        match self.place(name.text().as_bytes()) {
             Some(place) => Ok(Column { place, name }),
-            None => Err(ReportFault::NoColumn(self.number, name)),
+            None => Err(ReportFault::NoColumn(self.number, name.text())),
         }
     }
 
@@ -96,11 +113,12 @@ impl Table {
     }
 
     /// That it has no column of a name.
-    pub(crate) fn lacks(&self, name: &'static str) -> Result<(), ReportFault>
-        ensures { OnOk result (column_of (map fields_of self.now.records.items) name.now ≡ None) }
+    pub(crate) fn lacks(&self, name: Name) -> Result<(), ReportFault>
+        ensures read { OnOk result (column_of (map fields_of self.now.records.items) (name_text name) ≡ None) }
+        ensures refuses { RefusesFor result (present self.now.number (map fields_of self.now.records.items) name) }
     {
-        match self.place(name.as_bytes()) {
-            Some(_) => Err(ReportFault::HasColumn(self.number, name)),
+        match self.place(name.text().as_bytes()) {
+            Some(_) => Err(ReportFault::HasColumn(self.number, name.text())),
             None => Ok(()),
         }
     }
@@ -114,7 +132,8 @@ impl Table {
 
     /// Its rows, after the names.
     pub(crate) fn rows(&self) -> &[ByteRecord]
-        ensures { map fields_of result.now ≡ rows_of (map fields_of self.now.records.items) }
+        ensures are { map fields_of result.now ≡ rows_of (map fields_of self.now.records.items) }
+        ensures few { length result.now < 2 ^ 63 }
     {
         match self.records.as_slice() {
             [_, rows @ ..] => rows,
@@ -124,7 +143,9 @@ impl Table {
 
     /// The row at a place after the names, from 0.
     pub(crate) fn row<'a>(&self, place: usize, held: &'a ByteRecord) -> TableRow<'a>
-        ensures { result.record.now ≡ held.now }
+        ensures held { result.record.now ≡ held.now }
+        ensures table { result.table ≡ self.now.number }
+        ensures number { place + 1 < 2 ^ 64 → result.number ≡ place + 1 }
     {
         TableRow {
             table: self.number,
@@ -156,7 +177,9 @@ impl<'a> TableRow<'a> {
 
     /// The number of a column.
     pub(crate) fn number(&self, column: Column) -> Result<u64, ReportFault>
-        ensures { IfOk result (λ number. number_in column.place (fields_of self.now.record.now) ≡ Some number) }
+        ensures read { IfOk result (λ number. number_in column.place (fields_of self.now.record.now) ≡ Some number) }
+        ensures none { OnErr result (number_in column.place (fields_of self.now.record.now) ≡ None) }
+        ensures why { IfErr result (λ e. cause_of e ≡ Some (IsBad self.now.table self.now.number (name_text column.name))) }
     {
         match read_decimal(self.text(column), DIGITS) {
             Some(number) => Ok(number),
@@ -166,7 +189,9 @@ impl<'a> TableRow<'a> {
 
     /// The number of a column that may be empty.
     pub(crate) fn optional_number(&self, column: Column) -> Result<Option<u64>, ReportFault>
-        ensures { IfOk result (λ number. optional_in column.place (fields_of self.now.record.now) ≡ Some number) }
+        ensures read { IfOk result (λ number. optional_in column.place (fields_of self.now.record.now) ≡ Some number) }
+        ensures none { OnErr result (optional_in column.place (fields_of self.now.record.now) ≡ None) }
+        ensures why { IfErr result (λ e. cause_of e ≡ Some (IsBad self.now.table self.now.number (name_text column.name))) }
     {
         if self.text(column).is_empty() {
             return Ok(None);
@@ -181,7 +206,10 @@ impl<'a> TableRow<'a> {
         first: &[u8],
         second: &[u8],
     ) -> Result<bool, ReportFault>
-        ensures { IfOk result (λ is. word_in column.place first.now second.now (fields_of self.now.record.now) ≡ Some is) }
+        ensures read { IfOk result (λ is.
+            word_in column.place first.now second.now (fields_of self.now.record.now) ≡ Some is) }
+        ensures none { OnErr result (word_in column.place first.now second.now (fields_of self.now.record.now) ≡ None) }
+        ensures why { IfErr result (λ e. cause_of e ≡ Some (IsBad self.now.table self.now.number (name_text column.name))) }
     {
         let text = self.text(column);
         if text == second {
@@ -194,8 +222,10 @@ impl<'a> TableRow<'a> {
     }
 
     /// That a column has no value of its kind.
-    pub(crate) fn bad(&self, column: Column) -> ReportFault {
-        ReportFault::BadValue(self.table, self.number, column.name)
+    pub(crate) fn bad(&self, column: Column) -> ReportFault
+        ensures { cause_of result ≡ Some (IsBad self.now.table self.now.number (name_text column.name)) }
+    {
+        ReportFault::BadValue(self.table, self.number, column.name.text())
     }
 }
 

@@ -1,16 +1,18 @@
 //! Totals of a table of payments, as a table.
 
-ghost use Rattle.std.specs.Prelude.{◌≡◌, ◌++◌, map, Some, None, IfOk, OnOk};
+ghost use Rattle.std.specs.Prelude.{◌≡◌, ◌++◌, map, Some, None, IfOk, OnOk, IfErr};
 ghost use Rattle.std.specs.BTreeMap.{IsOrdered};
 ghost use Rattle.csv.specs.Records.{fields_of};
 ghost use Rattle.claim_reports.specs.Totals.{key_cmp};
-ghost use Rattle.claim_reports.specs.Totalled.{day_name, by_name, AreColumns, day_in, paid_in, ArePaid, total_row, totals_text, IsTotalled};
+ghost use Rattle.claim_reports.specs.Causes.{BadValue as IsBad, RefusesFor, bad_at, cause_of};
+ghost use Rattle.claim_reports.specs.Names.{name_text};
+ghost use Rattle.claim_reports.specs.Totalled.{day_name, day_column, by_name, AreColumns, columns_in, columns_missing, bad_day, paid_bad, paid_cause, payments_in, totals_cause, day_in, paid_in, ArePaid, total_row, totals_text, IsTotalled};
 ghost use Rattle.table_text.specs.Adding.{AddsRow};
 ghost use Rattle.table_text.specs.declared.layout.Style.TheVariants.{Csv};
 
 use crate::choice::{Choice, Paid, chosen};
 use crate::fault::ReportFault;
-use crate::ruled_rows::RULED_ON;
+use crate::naming::Name;
 use crate::table::{Column, Table, TableRow};
 use crate::totals::{By, Sums, totals_of};
 use std::alloc::{AllocError, Global};
@@ -49,7 +51,9 @@ pub fn totals_table(
     choice: &Choice,
 ) -> Result<Vec<u8>, ReportFault>
     // What is written is, row by row, the totals of the payments that a reader of CSV finds in the table.
-    ensures { IfOk result (λ text. IsTotalled payments.now by days choice.now text.items) }
+    ensures made { IfOk result (λ text. IsTotalled payments.now by days choice.now text.items) }
+    // It is refused for the first fault of the table, for sums that are too large, or for want of memory, and for nothing else.
+    ensures refuses { RefusesFor result (totals_cause payments.now by days choice.now) }
 {
     let table = Table::read(alloc, 1, payments)?;
     let paid = paid_in(alloc, &table, days)?;
@@ -62,7 +66,9 @@ pub fn totals_table(
 
 /// The payments of a table.
 fn paid_in(alloc: Global, table: &Table, days: Days) -> Result<Vec<Paid>, ReportFault>
-    ensures { IfOk result (λ paid. ArePaid days (map fields_of table.now.records.items) paid.items) }
+    ensures read { IfOk result (λ paid. ArePaid days (map fields_of table.now.records.items) paid.items) }
+    ensures all { IfOk result (λ paid. payments_in days (map fields_of table.now.records.items) ≡ paid.items) }
+    ensures refuses { RefusesFor result (paid_cause table.now.number days (map fields_of table.now.records.items)) }
 {
     let columns = Columns::of(table, days)?;
     let mut paid = Vec::new(alloc);
@@ -76,21 +82,25 @@ fn paid_in(alloc: Global, table: &Table, days: Days) -> Result<Vec<Paid>, Report
 impl Columns {
     /// Those of a table.
     fn of(table: &Table, days: Days) -> Result<Columns, ReportFault>
-        ensures { IfOk result (λ columns. AreColumns days (map fields_of table.now.records.items) columns) }
+        ensures read { IfOk result (λ columns. AreColumns days (map fields_of table.now.records.items) columns) }
+        ensures are { IfOk result (λ columns. columns ≡ columns_in days (map fields_of table.now.records.items)) }
+        ensures refuses { RefusesFor result (columns_missing table.now.number days (map fields_of table.now.records.items)) }
     {
         Ok(Columns {
-            payer: table.column("payer")?,
-            pharmacy: table.column("pharmacy")?,
-            day: table.column(days.name())?,
-            cents: table.column("paid_cents")?,
-            state: table.column("state")?,
+            payer: table.column(Name::Payer)?,
+            pharmacy: table.column(Name::Pharmacy)?,
+            day: table.column(days.column())?,
+            cents: table.column(Name::PaidCents)?,
+            state: table.column(Name::State)?,
         })
     }
 
     /// The payment of a row.
-    #[tactic(auto, unfolding(crate::specs::Totalled::paid_in))]
+    #[tactic(auto, unfolding(crate::specs::Totalled::paid_in, crate::specs::Totalled::paid_bad))]
     fn paid(&self, row: &TableRow<'_>, days: Days) -> Result<Paid, ReportFault>
-        ensures { IfOk result (λ paid. paid_in days self.now (fields_of row.now.record.now) ≡ Some paid) }
+        ensures read { IfOk result (λ paid. paid_in days self.now (fields_of row.now.record.now) ≡ Some paid) }
+        ensures refuses { RefusesFor result
+            (bad_at row.now.table row.now.number (paid_bad days self.now (fields_of row.now.record.now))) }
     {
         Ok(Paid {
             payer: row.number(self.payer)?,
@@ -161,19 +171,29 @@ impl By {
 }
 
 impl Days {
+    /// Its column.
+    fn column(self) -> Name
+        ensures { result ≡ day_column self }
+    {
+        match self {
+            Days::Service => Name::DateOfService,
+            Days::Ruling => Name::RuledOn,
+        }
+    }
+
     /// The name of its column.
     fn name(self) -> &'static str
         ensures { result.now ≡ day_name self }
     {
-        match self {
-            Days::Service => "date_of_service",
-            Days::Ruling => RULED_ON,
-        }
+        self.column().text()
     }
 
     /// The day of a row, which its column has; that of ruling may not be known.
     fn day(self, row: &TableRow<'_>, column: Column) -> Result<Option<u64>, ReportFault>
-        ensures { IfOk result (λ day. day_in self column.place (fields_of row.now.record.now) ≡ Some day) }
+        ensures read { IfOk result (λ day. day_in self column.place (fields_of row.now.record.now) ≡ Some day) }
+        ensures bad { OnOk result (bad_day self column (fields_of row.now.record.now) ≡ None) }
+        ensures why { IfErr result (λ e. bad_day self column (fields_of row.now.record.now) ≡ Some (name_text column.name)) }
+        ensures tells { IfErr result (λ e. cause_of e ≡ Some (IsBad row.now.table row.now.number (name_text column.name))) }
     {
         match self {
             Days::Service => Ok(Some(row.number(column)?)),

@@ -1,8 +1,9 @@
 //! Totals of payments: by payer, by pharmacy or by day.
 
-ghost use Rattle.std.specs.Prelude.{◌≡◌, ℕ, Option, IfOk, IfSome, OnOk};
+ghost use Rattle.std.specs.Prelude.{◌≡◌, ℕ, Option, true, false, IfNone, IfOk, IfSome, OnOk, OnSome};
 ghost use Rattle.std.specs.BTreeMap.{get};
-ghost use Rattle.claim_reports.specs.Totals.{key_of, key_cmp, cents_if, one_if, with_payment, sums_or_none, total_at, AddsPayment, AddUp};
+ghost use Rattle.claim_reports.specs.Causes.{RefusesFor};
+ghost use Rattle.claim_reports.specs.Totals.{adding_cause, is_too_large, sums_cause, key_of, key_cmp, cents_if, one_if, with_payment, sums_or_none, total_at, AddsPayment, AddUp};
 
 use crate::choice::Paid;
 use crate::fault::ReportFault;
@@ -47,6 +48,8 @@ pub fn totals_of(
     ensures each { IfOk result (λ totals. (key : Option ℕ) → get key_cmp totals key ≡ total_at by key paid.now) }
     // All of them together are the sums of all payments.
     ensures all { IfOk result (λ totals. AddUp totals.entries paid.now) }
+    // They are refused for sums that are too large or for want of memory, and for nothing else.
+    ensures refuses { RefusesFor result (sums_cause by paid.now) }
 {
     let mut totals = BTreeMap::new(alloc);
     for payment in paid {
@@ -61,7 +64,8 @@ fn add(
     key: Option<u64>,
     payment: &Paid,
 ) -> Result<(), ReportFault>
-    ensures { OnOk result (AddsPayment totals.old totals.new key payment.now) }
+    ensures adds { OnOk result (AddsPayment totals.old totals.new key payment.now) }
+    ensures refuses { RefusesFor result (adding_cause (sums_or_none (get key_cmp totals.old key)) payment.now) }
 {
     let before = sums_at(totals, key);
     let Some(after) = before.with(payment) else {
@@ -102,7 +106,9 @@ impl By {
 impl Sums {
     /// The sums with one payment more; none where one has more than 64 bits.
     fn with(self, payment: &Paid) -> Option<Sums>
-        ensures { IfSome result (λ sums. sums ≡ with_payment self payment.now) }
+        ensures more { IfSome result (λ sums. sums ≡ with_payment self payment.now) }
+        ensures fits { OnSome result (is_too_large (with_payment self payment.now) ≡ false) }
+        ensures none { IfNone result (is_too_large (with_payment self payment.now) ≡ true) }
     {
         if payment.reversed {
             let reversed_count = self.reversed_count.checked_add(1)?;

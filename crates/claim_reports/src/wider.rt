@@ -1,7 +1,8 @@
 //! Records of CSV that are written with two fields more.
 
-ghost use Rattle.std.specs.Prelude.{◌≡◌, ◌<◌, ◌++◌, ◌∷◌, [], get_or, length, map, IfOk, OnOk};
+ghost use Rattle.std.specs.Prelude.{◌≡◌, ◌<◌, ◌++◌, ◌∷◌, [], get_or, length, map, IfErr, IfOk, OnOk};
 ghost use Rattle.csv.specs.Records.{fields_of};
+ghost use Rattle.claim_reports.specs.declared.fault.ReportFault.TheVariants.{OutOfMemory};
 ghost use Rattle.csv.specs.Writing.{row_text, default_writer};
 ghost use Rattle.claim_reports.specs.Wider.{wider_text};
 
@@ -16,7 +17,8 @@ pub(crate) fn put_wider(
     one: &[u8],
     two: &[u8],
 ) -> Result<(), ReportFault>
-    ensures { OnOk result (out.new.items ≡ out.old.items ++ wider_text (fields_of row.now) one.now two.now) }
+    ensures adds { OnOk result (out.new.items ≡ out.old.items ++ wider_text (fields_of row.now) one.now two.now) }
+    ensures memory { IfErr result (λ e. e ≡ OutOfMemory) }
 {
     let alloc = *out.allocator();
     let fields = wider_fields(alloc, row, one, two)?;
@@ -55,7 +57,8 @@ pub(crate) fn field_at(row: &ByteRecord, place: usize) -> &[u8]
 
 /// The line of some fields.
 fn line_of(alloc: Global, fields: &[&[u8]]) -> Result<Vec<u8>, ReportFault>
-    ensures { IfOk result (λ text. text.items ≡ row_text default_writer (map (λ f. f.now) fields.now)) }
+    ensures made { IfOk result (λ text. text.items ≡ row_text default_writer (map (λ f. f.now) fields.now)) }
+    ensures memory { IfErr result (λ e. e ≡ OutOfMemory) }
 {
     let mut writer = WriterBuilder::new().from_writer(Vec::new(alloc));
     if writer.write_fields(fields).is_err() {

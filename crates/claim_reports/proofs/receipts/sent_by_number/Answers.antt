@@ -29,8 +29,8 @@ loop-reply-preserved c =
           omega arith;
     }
 
-pub returns : goal.returns
-returns c = λ number.
+pub returns-clause-under : goal.returns-clause-under
+returns-clause-under c = λ number.
     let at = c.loop-reply in
     let none = c.in-None.ensures.steps in
     let empty : into_iter_items at.reply-iterator ≡ [] = nothing_left _ (sym at.invariant.left ∙ none.0) in

@@ -1,20 +1,63 @@
-use Rattle.std.proofs.Common.{[], ap}
+use Rattle.std.proofs.Common.{◌≡◌, ◌+◌, [], ap, arith, length}
 use Rattle.std.proofs.Math.ListN.{drop_of_length-le}
 use Rattle.claim_reports.specs.RulingsSeen.{line_seen, lines_seen}
 use Rattle.claim_reports.proofs.Remittances.{lines_none, lines_next, lines_end}
+use Rattle.claim_reports.proofs.Telling.{neither, passed, tells_then}
+use Rattle.claim_reports.proofs.WrongLines.{lines_begin, lines_fine, lines_good, move_wrong, row_wrong}
 use Rattle.claim_reports.proofs.remitting.put_lines.Goals as goal
 
 pub loop-line-init : goal.loop-line-init
-loop-line-init c =
-    lines_none c.args.columns.now c.args.asked.now c.args.before.now (lines_seen c.args.lines.now) c.args.out.now.items c.take_all.new.self (c.in_ok-take_all.ensures [] c.new-ledger.ensures).is
+loop-line-init c = record {
+  lines =
+      lines_none c.args.columns.now c.args.asked.now c.args.before.now (lines_seen c.args.lines.now) c.args.out.now.items c.take_all.new.self (c.in_ok-take_all.ensures.takes [] c.new-ledger.ensures).is;
+  number = omega arith;
+  good = lines_begin c.args.columns.now c.args.before.now c.args.lines.now;
+}
 
 pub loop-line-preserved : goal.loop-line-preserved
 loop-line-preserved c =
-    lines_next line_seen c.args.columns.now c.args.asked.now c.args.before.now c.args.lines.now c.loop-line.line-index _ c.args.out.now.items c.loop-line.out.items c.put_line.new.out.items
-    c.loop-line.ledger c.take_all-in-loop-line.new.self c.in_ok-moved.moved c.loop-line-test.true
-    (rw c.line-item.is at (c.in_ok-moved.ensures _ c.loop-line.invariant.is)) (rw c.line-item.is at c.in_ok-put_line.ensures) c.loop-line.invariant
+    let lt = c.loop-line-test.true in
+    let at = c.loop-line.invariant.number in
+    let number : c.loop-line.passed + 1 ≡ length c.args.before.now + c.loop-line.line-index + 1 = omega arith in
+    let last : length c.args.before.now + c.loop-line.line-index + 1 + 1 ≡ length c.args.before.now + (c.loop-line.line-index + 1) + 1 = omega arith in
+    record {
+      lines =
+          lines_next line_seen c.args.columns.now c.args.asked.now c.args.before.now c.args.lines.now c.loop-line.line-index _ c.args.out.now.items c.loop-line.out.items c.put_line.new.out.items
+          c.loop-line.ledger c.take_all-in-loop-line.new.self c.in_ok-moved.moved lt
+          (rw c.line-item.is at (c.in_ok-moved.ensures.takes _ c.loop-line.invariant.lines.is)) (rw c.line-item.is at c.in_ok-put_line.ensures.adds) c.loop-line.invariant.lines;
+      number = let one = c.saturating_add-passed.ensures in omega arith;
+      good =
+          rw (← last)
+          (lines_good c.args.columns.now c.args.before.now (length c.args.before.now + c.loop-line.line-index + 1) c.loop-line.line-index c.args.lines.now _ _ lt
+          (rw (c.line-item.is, number) at (c.in_ok-moved.ensures.refuses _ c.loop-line.invariant.lines.is (omega arith))) (rw c.line-item.is at c.in_ok-put_line.ensures.refuses) c.loop-line.invariant.good);
+    }
 
-pub returns : goal.returns
-returns c =
+pub returns-in_err-moved-clause-refuses : goal.returns-in_err-moved-clause-refuses
+returns-in_err-moved-clause-refuses c =
+    let lt = c.loop-line-test.true in
+    let at = c.loop-line.invariant.number in
+    let number : c.loop-line.passed + 1 ≡ length c.args.before.now + c.loop-line.line-index + 1 = omega arith in
+    passed c.from_residual-in_err-moved.result _ _ c.from_residual-in_err-moved.ensures.1
+    (tells_then _ _ _ (c.in_ok-take_all.ensures.refuses [] c.new-ledger.ensures (omega arith))
+    (move_wrong c.args.columns.now c.args.before.now (length c.args.before.now + c.loop-line.line-index + 1) c.loop-line.line-index c.args.lines.now _ _ _ lt
+    (rw (c.line-item.is, number) at (c.in_err-moved.ensures.refuses _ c.loop-line.invariant.lines.is (omega arith))) c.loop-line.invariant.good))
+
+pub returns-in_err-put_line-clause-refuses : goal.returns-in_err-put_line-clause-refuses
+returns-in_err-put_line-clause-refuses c =
+    let lt = c.loop-line-test.true in
+    let at = c.loop-line.invariant.number in
+    let number : c.loop-line.passed + 1 ≡ length c.args.before.now + c.loop-line.line-index + 1 = omega arith in
+    passed c.from_residual-in_err-put_line.result _ _ c.from_residual-in_err-put_line.ensures.1
+    (tells_then _ _ _ (c.in_ok-take_all.ensures.refuses [] c.new-ledger.ensures (omega arith))
+    (row_wrong c.args.columns.now c.args.before.now (length c.args.before.now + c.loop-line.line-index + 1) c.loop-line.line-index c.args.lines.now _ _ _ lt
+    (rw (c.line-item.is, number) at (c.in_ok-moved.ensures.refuses _ c.loop-line.invariant.lines.is (omega arith))) (rw c.line-item.is at c.in_err-put_line.ensures.refuses) c.loop-line.invariant.good))
+
+pub returns-clause-adds : goal.returns-clause-adds
+returns-clause-adds c =
     lines_end c.args.columns.now c.args.asked.now c.args.before.now _ (lines_seen c.args.lines.now) _ c.args.out.now.items c.loop-line.out.items c.loop-line.ledger
-    (ap lines_seen (drop_of_length-le c.args.lines.now c.loop-line-test.false)) c.loop-line.invariant
+    (ap lines_seen (drop_of_length-le c.args.lines.now c.loop-line-test.false)) c.loop-line.invariant.lines
+
+pub returns-clause-refuses : goal.returns-clause-refuses
+returns-clause-refuses c =
+    neither _ _ (c.in_ok-take_all.ensures.refuses [] c.new-ledger.ensures (omega arith))
+    (lines_fine c.args.columns.now c.args.before.now (length c.args.before.now + c.loop-line.line-index + 1) c.loop-line.line-index c.args.lines.now _ c.loop-line-test.false c.loop-line.invariant.good)

@@ -13,6 +13,6 @@ adds_shown : {T E : Type 0} (r : Result T E) (old new : List ℕ) (fields : List
 adds_shown (Ok _) old new fields milliseconds shown is told = (time_text shown, day_text shown, inl (shown, is, refl, refl), told)
 adds_shown (Err _) old new fields milliseconds shown is told = told
 
-pub returns-in-Some : goal.returns-in-Some
-returns-in-Some c =
-    adds_shown c.put_shown.result c.args.out.now.items c.put_shown.new.out.items (fields_of c.args.row.now) c.args.milliseconds c.in-Some.shown c.in-Some.ensures.shown c.put_shown.ensures
+pub returns-in-Some-clause-adds : goal.returns-in-Some-clause-adds
+returns-in-Some-clause-adds c =
+    adds_shown c.put_shown.result c.args.out.now.items c.put_shown.new.out.items (fields_of c.args.row.now) c.args.milliseconds c.in-Some.shown c.in-Some.ensures.shown c.put_shown.ensures.adds

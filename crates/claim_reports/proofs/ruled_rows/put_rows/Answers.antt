@@ -9,8 +9,8 @@ loop-place-init c = nothing_yet c.args.out.now.items (map fields_of c.args.rows.
 pub loop-place-preserved : goal.loop-place-preserved
 loop-place-preserved c =
     lines_more {A = Row} fields_of c.args.rows.now c.args.times.now c.loop-place.place _ c.args.out.now.items c.loop-place.out.items c.put_ruled.new.out.items c.loop-place-test.true
-    (rw (c.index-rows-place.is, c.time_at.ensures) at c.in_ok-put_ruled.ensures) c.loop-place.invariant
+    (rw (c.index-rows-place.is, c.time_at.ensures) at c.in_ok-put_ruled.ensures.adds) c.loop-place.invariant
 
-pub returns : goal.returns
-returns c =
+pub returns-clause-adds : goal.returns-clause-adds
+returns-clause-adds c =
     lines_end {A = Row} fields_of c.args.rows.now c.args.times.now c.loop-place.place c.args.out.now.items c.loop-place.out.items c.loop-place-test.false c.loop-place.invariant

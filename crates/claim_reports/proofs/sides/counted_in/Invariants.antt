@@ -1,12 +1,18 @@
-use Rattle.std.proofs.Common.{◌≡◌, map, drop}
+use Rattle.std.proofs.Common.{◌≡◌, ◌+◌, map, drop}
 use Rattle.csv.specs.Records.{fields_of}
+use Rattle.claim_reports.specs.Causes.{bad_rows}
 use Rattle.claim_reports.specs.Tables.{given_by}
-use Rattle.claim_reports.specs.Compared.{counted_in}
+use Rattle.claim_reports.specs.Compared.{counted_bad, counted_in}
 use Rattle.claim_reports.proofs.Rowwise.{behind}
 use Rattle.claim_reports.proofs.sides.counted_in.Given as goal
 
--- those so far, and then those of the rows that are left
+-- those so far, and then those of the rows that are left; in none so far is anything bad
 abbrev pub invariant-loop-place : goal.invariant-loop-place
-invariant-loop-place l =
-    given_by (counted_in l.columns l.between) (map fields_of l.record-items)
-    ≡ behind l.counted.items (given_by (counted_in l.columns l.between) (map fields_of (drop l.place l.record-items)))
+invariant-loop-place l = record {
+  read :
+      given_by (counted_in l.columns l.between) (map fields_of l.record-items)
+      ≡ behind l.counted.items (given_by (counted_in l.columns l.between) (map fields_of (drop l.place l.record-items)));
+  good :
+      bad_rows 1 (counted_bad l.between l.columns) 1 (map fields_of l.record-items)
+      ≡ bad_rows 1 (counted_bad l.between l.columns) (l.place + 1) (map fields_of (drop l.place l.record-items));
+}
