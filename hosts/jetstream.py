@@ -25,11 +25,12 @@ MOST_ON_THE_WAY = 256
 async def make(connection: nats.Connection, nodes: Iterable[str]) -> None:
     """Has the packets of these nodes kept, as long as the server has its store."""
     for node in nodes:
-        await _ask(connection, f"STREAM.CREATE.{subjects.stream(node)}", _stream(node))
+        await _ask(connection, f"STREAM.CREATE.{subjects.stream(node)}", stream_of(node))
         await _ask(connection, f"CONSUMER.DURABLE.CREATE.{subjects.stream(node)}.{node}", _consumer(node))
 
 
-def _stream(node: str) -> dict[str, object]:
+def stream_of(node: str) -> dict[str, object]:
+    """The stream of a node, as it is made."""
     return {
         "name": subjects.stream(node),
         "subjects": [subjects.packets(node)],

@@ -61,6 +61,16 @@ def enveloped(kind, pharmacy, number, payload):
     return printed(head + len(payload).to_bytes(4, "big") + payload)
 
 
+def rejection(answer):
+    """What a switch answers where a claim has no route, to the request of an answer."""
+    return answer[:5] + b"R" + answer[6:31] + b"\x1d\x1e\x1cAM21\x1cANR\x1cFA1\x1cFB01"
+
+
+def rejected_of(request):
+    """An answer to a request, with its provider and day, that rejects what was asked."""
+    return request[6:10] + b"1A" + request[21:46] + b"\x1d\x1e\x1cAM21\x1cANR\x1cFA1\x1cFB70"
+
+
 class Folder:
     """The keys that hosts/permissions has written, to sign as any of their nodes."""
 

@@ -29,6 +29,18 @@ NOT_SEEN = {
     ("/readyz", "get", "503"): "tests/front-grown has settings that have changed",
 }
 
+# No request of HTTP, and by which code it is refused.
+HEADS_THAT_ARE_NONE = (
+    (b"GET /healthz HTTP/9.9\r\n\r\n", "Line"), (b"GET /healthz HTTP/1.1\nHost: x\n\n\r\n\r\n", "Line"), (b"\x16\x03\x01 junk\r\n\r\n", "Line"),
+    (b"GET /healthz HTTP/1.1\r\nHost: x\nAccept: y\r\n\r\n", "Field"), (b"GET /healthz HTTP/1.1\r\nHost: x\r\n folded\r\n\r\n", "Field"),
+    (b"GET /healthz HTTP/1.1\r\nHost : x\r\n\r\n", "Field"), (b"GET /healthz HTTP/1.1\r\nHost: x\0y\r\n\r\n", "Field"),
+    (b"GET /healthz HTTP/1.1\r\n: x\r\n\r\n", "Field"), (b"BREW /healthz HTTP/1.1\r\n\r\n", "Method"), (b"CONNECT x:1 HTTP/1.1\r\n\r\n", "Method"),
+    (b"POST / HTTP/1.1\r\nContent-Length: 3\r\nContent-Length: 3\r\n\r\nabc", "Length"), (b"POST / HTTP/1.1\r\nContent-Length: +3\r\n\r\nabc", "Length"),
+    (b"POST / HTTP/1.1\r\nContent-Length: 3\r\nTransfer-Encoding: chunked\r\n\r\n", "Length"),
+    (b"POST / HTTP/1.1\r\nTransfer-Encoding: gzip, chunked\r\n\r\n", "Length"), (b"GET /" + b"x" * 9000, "Long"),
+    (b"GET /healthz HTTP/1.1\r\nX: " + b"y" * 9000 + b"\r\n\r\n", "Long"),
+)  # fmt: skip
+
 
 def python_with_aiohttp(name):
     """A Python that has aiohttp; ends the test where there is none."""

@@ -257,6 +257,14 @@ def memory_of(pid):
     return tuple(int(re.search(rf"^{key}:\s+(\d+)", text, re.MULTILINE).group(1)) for key in ("VmHWM", "VmRSS"))
 
 
+def heap_of(pid):
+    """How large the heap of a process is, in KiB: that of which the C library takes small pieces of memory."""
+    found = re.search(
+        r"^([0-9a-f]+)-([0-9a-f]+) .*\[heap\]$", pathlib.Path(f"/proc/{pid}/maps").read_text(), re.MULTILINE
+    )
+    return (int(found[2], 16) - int(found[1], 16)) >> 10 if found else 0
+
+
 def main(name, trial, needs=("claimaudit",)):
     """Runs a trial in a folder of its own, over these programs: `trial(folder, words)`; the words are those of the command line."""
     need(name, "nats-server", "openssl", *map(programs.program, needs))

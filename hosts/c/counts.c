@@ -8,7 +8,7 @@
 
 static const char *const call_name[CALLS] = { "submit", "answer", "take", "adjudicate", "tick", "plan", "terms", "stop", "start", "other" };
 static const char *const why_name[WHYS] = { "not_a_packet", "held_back", "full", "reply", "would_be_full", "under_way", "rules_full",
-                                             "unsigned", "forged", "wrong_payer", "rerouted" };
+                                             "unsigned", "forged", "wrong_payer", "unasked", "rerouted" };
 
 static pthread_mutex_t lock = PTHREAD_MUTEX_INITIALIZER;
 static struct {

@@ -82,6 +82,8 @@ static enum came came_of(const struct asked *asked, CURLcode code) {
     if (asked->came == CAME_TOO_LONG || code == CURLE_FILESIZE_EXCEEDED) return CAME_TOO_LONG;
     if (code == CURLE_OPERATION_TIMEDOUT) return CAME_TIMED_OUT;
     if (code != CURLE_OK) return asked->status == 0 ? CAME_UNREACHABLE : CAME_BROKEN;
+    /* Of a first line that is nearly one of HTTP libcurl tells no status, and no fault. */
+    if (asked->status == 0) return CAME_STATUS;
     return asked->answer.size == 0 ? CAME_EMPTY : CAME_ADVICE;
 }
 

@@ -9,12 +9,20 @@ enum { REQUEST = 1, ANSWER = 2 };
 
 /* How many signatures of answers a switch keeps; where two have one place the older is forgotten. */
 #define KEPT 16384
+/* How many requests of each place are known to have gone to a payer; the oldest is forgotten. */
+#define WENT 4
 
 static struct {
     uint64_t number;
     uint16_t pharmacy;
     char text[SIGNED_TEXT];
 } kept[KEPT];
+
+/* To which payer a switch has sent a request, the latest of each place first; 0 where nothing is known. */
+static struct went {
+    uint64_t number;
+    uint16_t pharmacy, payer;
+} went[KEPT][WENT];
 
 static size_t place_of(const struct head *head) {
     return (size_t)((head->number * 31 + head->pharmacy) % KEPT);
@@ -31,6 +39,23 @@ static void keep(const struct head *head, const char *text) {
 static const char *kept_of(const struct head *head) {
     size_t place = place_of(head);
     return kept[place].number == head->number && kept[place].pharmacy == head->pharmacy ? kept[place].text : NULL;
+}
+
+/* Notes to which payer a request goes. */
+static void note_went(const struct head *head, unsigned payer) {
+    struct went *at = went[place_of(head)];
+    size_t last = 0;
+    while (last < WENT - 1 && (at[last].number != head->number || at[last].pharmacy != head->pharmacy)) last++;
+    memmove(at + 1, at, last * sizeof *at);
+    at[0] = (struct went){ head->number, head->pharmacy, (uint16_t)payer };
+}
+
+/* The payer to which the request of this answer went; 0 of a request that this process has not sent, or has forgotten. */
+static unsigned went_to(const struct head *head) {
+    const struct went *at = went[place_of(head)];
+    for (size_t one = 0; one < WENT; one++)
+        if (at[one].number == head->number && at[one].pharmacy == head->pharmacy) return at[one].payer;
+    return 0;
 }
 
 const char *signed_text(natsMsg *packet) {
@@ -85,6 +110,17 @@ static enum why fault_of_answer(struct host *host, const struct message *one, co
     return route > 0 || is_rejection(request, request_size, answer, size) ? WHYS : FORGED;
 }
 
+/*
+** Of an answer at a switch, which is of the payer to which its request went: the switch would hold on to another's, which the pharmacy refuses, and
+** to no answer behind it. Where that is not known the answer is lost, as on the way: its pharmacy asks again, and then it is.
+*/
+static enum why fault_of_passing(const struct host *host, const struct message *one, const struct head *head, const char *sender) {
+    if (!begins(sender, 2, "pr") || !holds(host, one, sender)) return FORGED;
+    unsigned payer = went_to(head);
+    if (payer == 0) return UNASKED;
+    return payer == strtoul(sender + 2, NULL, 10) ? WHYS : WRONG_PAYER;
+}
+
 /* Why a packet is not taken; WHYS where it is. */
 static enum why fault_of(struct host *host, const struct message *one) {
     struct head head;
@@ -94,7 +130,7 @@ static enum why fault_of(struct host *host, const struct message *one) {
     if (!sender_of(host->given.name, natsMsg_GetSubject(one->text), sender)) return FORGED;
     if (head.kind == REQUEST) return fault_of_request(host, one, &head, sender);
     if (begins(host->given.name, 2, "ph")) return fault_of_answer(host, one, &head, sender);
-    return begins(sender, 2, "pr") && holds(host, one, sender) ? WHYS : FORGED;
+    return fault_of_passing(host, one, &head, sender);
 }
 
 void signed_mark(struct host *host, struct message *batch) {
@@ -109,9 +145,9 @@ void signed_mark(struct host *host, struct message *batch) {
 }
 
 void signed_refuse(const struct host *host, const struct message *one) {
-    static const char *const name[] = { [UNSIGNED] = "unsigned", [FORGED] = "forged", [WRONG_PAYER] = "wrong_payer" };
+    static const char *const name[] = { [UNSIGNED] = "unsigned", [FORGED] = "forged", [WRONG_PAYER] = "wrong_payer", [UNASKED] = "unasked" };
     counts_dropped(one->fault);
-    say_refused(one, host->given.name, "warning", "a packet was not taken", name[one->fault]);
+    say_refused(one, host->given.name, one->fault == UNASKED ? "info" : "warning", "a packet was not taken", name[one->fault]);
 }
 
 /* Has the payer of a request give its answer anew: the request goes to it once more, as what came of it a while ago, or of another repeat. */
@@ -124,6 +160,7 @@ static void ask_anew(struct host *host, const struct message *one) {
     unsigned route = keys_route(host->keys, head.number, request, size);
     if (route == 0) return;
     snprintf(payer, sizeof payer, "pr%u", route % 100000);
+    note_went(&one->head, route);
     counts_asked_anew();
     send_packet(host->carrier, payer, strlen(payer), natsMsg_GetData(one->text), (size_t)natsMsg_GetDataLength(one->text),
                 signed_text(one->text));
@@ -157,6 +194,7 @@ void signed_send(struct host *host, const struct message *one, const char *to, s
         }
         handed = signed_text(one->text);
         if (is_answer && handed != NULL) keep(&head, handed);
+        if (begins(to, to_size, "pr") && head_of(text, size, &head)) note_went(&head, (unsigned)strtoul(to + 2, NULL, 10));
     }
     send_packet(host->carrier, to, to_size, text, size, handed);
 }

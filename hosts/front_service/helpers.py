@@ -21,10 +21,12 @@ from typing import Any
 
 from said import Said
 
+from . import memory
 from .lines import Seldom, take_over
 
 HEAD = 4
-READ_BYTES = 1 << 18
+# Less than is mapped by itself (memory.py).
+READ_BYTES = 1 << 16
 READY_SECONDS = 60.0
 END_SECONDS = 20.0
 REAP_SECONDS = 0.2
@@ -186,6 +188,7 @@ def serve(make: Callable[[list[tuple[int, str, tuple[Any, ...]]]], list[tuple[in
     for number in (signal.SIGINT, signal.SIGTERM):
         signal.signal(number, signal.SIG_IGN)
     take_over(Seldom(Said("front")))
+    memory.give_back()
     end = socket.socket(fileno=0)
     came = bytearray()
     with contextlib.suppress(ConnectionError):
