@@ -8,7 +8,7 @@ returns-in-Some-clause-refused c = record {
   after = c.in-Ok-settings_of.settings;
   first = c.in-Ok.ensures.spelled;
   second = c.in-Ok-settings_of.ensures.spelled;
-  is = rw c.settings-earlier.ensures.kept at (sym c.first_ungrown.ensures.first ∙ c.in-Some.is);
+  is = sym c.first_ungrown.ensures.first ∙ c.in-Some.is;
 }
 
 pub returns-clause-grown : goal.returns-clause-grown
@@ -17,5 +17,5 @@ returns-clause-grown c = record {
   after = c.in-Ok-settings_of.settings;
   first = c.in-Ok.ensures.spelled;
   second = c.in-Ok-settings_of.ensures.spelled;
-  grows = rw c.settings-earlier.ensures.kept at (c.first_ungrown.ensures.grows c.in-None.is);
+  grows = c.first_ungrown.ensures.grows c.in-None.is;
 }
