@@ -160,7 +160,7 @@ static void ask_anew(struct host *host, const struct message *one) {
     unsigned route = keys_route(host->keys, head.number, request, size);
     if (route == 0) return;
     snprintf(payer, sizeof payer, "pr%u", route % 100000);
-    note_went(&head, route);
+    note_went(&one->head, route);
     counts_asked_anew();
     send_packet(host->carrier, payer, strlen(payer), natsMsg_GetData(one->text), (size_t)natsMsg_GetDataLength(one->text),
                 signed_text(one->text));
