@@ -135,6 +135,8 @@ class Trials(unittest.TestCase):
             lambda: payer.plan(b"00093721410", 1.5),
             lambda: payer.plan(b"00093721410", True),
             lambda: payer.plan(b"00093721410", "1"),
+            lambda: payer.terms(1, True),
+            lambda: payer.terms("1", 1),
             lambda: pharmacy.answer("1"),
             lambda: pharmacy.request(None),
             lambda: FileNode("settings", "ph1", self.folder / "other.log"),
@@ -235,6 +237,7 @@ class Trials(unittest.TestCase):
         self.assertEqual(payer.plan(b"00093721410", 20000), vogrilas.Said(()))
         self.assertEqual(payer.plan(b"00093721410", None), vogrilas.Said(()))
         self.assertEqual(payer.plan(b"a b", 1), vogrilas.Said(()))
+        self.assertEqual(payer.terms(150, 1000), vogrilas.Said(()))
 
     def test_one_process_has_the_log(self):
         self.opened("ph1")

@@ -58,6 +58,7 @@ fn calls_are_on_disk() {
     assert_eq!((again.calls().unwrap(), again.answer(1).unwrap()), (2, None));
     let mut payer = folder.open("pr1").unwrap();
     assert_eq!(payer.plan(b"a b", Some(20_000)).unwrap(), Said::default());
+    assert_eq!(payer.terms(150, 1_000).unwrap(), Said::default());
     assert_eq!((payer.plan(b"a b", None).unwrap(), payer.stop().unwrap(), payer.start().unwrap()), Default::default());
     let Err(FileError::Library(Error { code, .. })) = payer.answer(1) else { panic!("a payer has no entries") };
     assert_eq!(code, Code::NotFound);
