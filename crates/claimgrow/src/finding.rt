@@ -1,6 +1,6 @@
 //! What the program alone can find wrong.
 
-use log_growth::GrowthFault;
+use log_growth::{GrowthFault, OverFault};
 use log_turning::{JoinFault, RestFault};
 use thiserror::Error;
 
@@ -25,9 +25,12 @@ pub(crate) enum Finding {
     /// The log of this name begins with another rest than its node left after the one before it.
     #[error("{0}: {1}")]
     Rest(String, RestFault),
-    /// The request of this number of the pharmacy of this log has a text that no settings spell.
-    #[error("{0}: entry {1} has a text that no settings spell")]
-    Unspelled(String, u64),
+    /// The log of this name does not go over, whatever rows there are.
+    #[error("{0}: does not go over: {1}")]
+    Stays(String, OverFault),
+    /// A request in the log of this name, which was rejected, has a text that no settings spell.
+    #[error("{0}: a request that was rejected has a text that no settings spell")]
+    Unspelled(String),
     /// Some log does not go over.
     #[error("no log was changed, since not all go over")]
     SomeStay,

@@ -15,7 +15,7 @@ mod words;
 use crate::copies::put_in_place;
 use crate::finding::Finding;
 use crate::locked::{Locked, lock_all};
-use crate::rejecting::{Unspelled, put_rows};
+use crate::rejecting::rows_of;
 use crate::telling::{Stays, hint_for, put_line};
 use crate::words::{Words, words_of};
 use bin_routes::RouteKey;
@@ -28,6 +28,7 @@ use std::alloc::Global;
 use std::io::Write;
 use std::process::ExitCode;
 use world_settings::living_settings_fault;
+use world_setup::Node;
 
 /// Why the program ends before each log is one of the new settings.
 type Ungone = End<Finding>;
@@ -116,7 +117,7 @@ fn judge(
     }
 }
 
-/// Writes the rows by which what switches rejected stays rejected, of all logs, where each goes over but for that.
+/// Writes the rows by which what switches rejected stays rejected, of all logs.
 fn write_rows(
     rt: &HostRuntime,
     words: &Words<'_>,
@@ -127,43 +128,62 @@ fn write_rows(
     requires old { AreOf old.now grown.now.old }
     requires new { AreOf new.now grown.now.new }
 {
-    let alloc = rt.alloc();
-    let mut rows = Vec::new(alloc);
+    let mut rows = Vec::new(rt.alloc());
     for name in &words.logs {
         let bytes = read_log(rt, old, new, name)?;
-        match becomes_of(alloc, grown, new, bytes.as_slice()) {
-            Ok(_) => {}
-            Err(Stays::Rerouted(_, entries)) => add_rows(
-                alloc,
-                &mut rows,
-                name,
-                entries.as_slice(),
-            )?,
-            Err(Stays::Fault(OverFault::OutOfMemory)) => return Err(End::OutOfMemory),
-            Err(stays) => {
-                let mut line = Vec::new(alloc);
-                put_line(alloc, &mut line, name, &Err(stays), "")?;
-                rt.stderr().write_all(line.as_slice())?;
-                return Err(End::Own(Finding::SomeStay));
-            }
-        }
+        let found = rows_for(rt.alloc(), grown, new, name, bytes.as_slice())?;
+        rows.extend_from_slice(found.as_slice())?;
     }
     write_out(rt, rows.as_slice())
 }
 
-/// Adds the rows of the log of this name.
-fn add_rows(
+/// The rows of a log, which has to go over but for what they let stay rejected.
+fn rows_for(
     alloc: Global,
-    rows: &mut Vec<u8>,
+    grown: &Grown,
+    new: &[u8],
     name: &str,
-    entries: &[(u64, RouteKey)],
-) -> Result<(), Ungone> {
-    match put_rows(alloc, rows, entries)? {
-        Ok(()) => Ok(()),
-        Err(Unspelled(entry)) => match String::from_str(alloc, name) {
-            Ok(name) => Err(End::Own(Finding::Unspelled(name, entry))),
+    bytes: &[u8],
+) -> Result<Vec<u8>, Ungone>
+    requires { AreOf new.now grown.now.new }
+{
+    match go_over(alloc, &grown.old, &grown.new, new, bytes) {
+        Ok(Gone::Over(node, written)) => rows_in(alloc, new, name, node, written.as_slice()),
+        Ok(Gone::Already(_)) => Ok(Vec::new(alloc)),
+        Err(fault) => Err(stays(alloc, name, fault)),
+    }
+}
+
+/// The rows of a node, by its log under the new settings.
+fn rows_in(
+    alloc: Global,
+    new: &[u8],
+    name: &str,
+    node: Node,
+    written: &[u8],
+) -> Result<Vec<u8>, Ungone> {
+    match rerouted(alloc, new, node, written) {
+        Ok(entries) => spelled(alloc, name, rows_of(alloc, entries.as_slice())?),
+        Err(fault) => Err(stays(alloc, name, fault)),
+    }
+}
+
+/// Rows that settings can spell.
+fn spelled(alloc: Global, name: &str, rows: Option<Vec<u8>>) -> Result<Vec<u8>, Ungone> {
+    match rows {
+        Some(rows) => Ok(rows),
+        None => match String::from_str(alloc, name) {
+            Ok(name) => Err(End::Own(Finding::Unspelled(name))),
             Err(_) => Err(End::OutOfMemory),
         },
+    }
+}
+
+/// The end for a log that stays for another cause.
+fn stays(alloc: Global, name: &str, fault: OverFault) -> Ungone {
+    match (fault, String::from_str(alloc, name)) {
+        (OverFault::OutOfMemory, _) | (_, Err(_)) => End::OutOfMemory,
+        (fault, Ok(name)) => End::Own(Finding::Stays(name, fault)),
     }
 }
 
@@ -173,12 +193,23 @@ fn becomes_of(alloc: Global, grown: &Grown, new: &[u8], bytes: &[u8]) -> Result<
 {
     match go_over(alloc, &grown.old, &grown.new, new, bytes) {
         Ok(Gone::Over(node, written)) => match rerouted(alloc, new, node, written.as_slice()) {
-            Ok(entries) if entries.is_empty() => Ok(Gone::Over(node, written)),
-            Ok(entries) => Err(Stays::Rerouted(node, entries)),
+            Ok(entries) => unless_rejected(node, written, entries.as_slice()),
             Err(fault) => Err(Stays::Fault(fault)),
         },
         Ok(gone) => Ok(gone),
         Err(fault) => Err(Stays::Fault(fault)),
+    }
+}
+
+/// The log of a node that goes over, where no entry has a rejection that does not stay.
+fn unless_rejected(
+    node: Node,
+    written: Vec<u8>,
+    entries: &[(u64, RouteKey)],
+) -> Result<Gone, Stays> {
+    match entries.first() {
+        None => Ok(Gone::Over(node, written)),
+        Some((entry, _)) => Err(Stays::Rerouted(node, *entry)),
     }
 }
 

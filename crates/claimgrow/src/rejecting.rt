@@ -3,10 +3,6 @@
 use bin_routes::RouteKey;
 use std::alloc::{AllocError, Global};
 
-/// Why no rows are written: the request of this number has a processor control number, or its pharmacy an identity, that no text
-/// of settings spells.
-pub(crate) struct Unspelled(pub(crate) u64);
-
 /// What a route may look at in requests of one pharmacy, and the last of them that a switch rejected.
 #[derive(Clone, Copy)]
 struct Last {
@@ -14,18 +10,19 @@ struct Last {
     number: u64,
 }
 
-/// Appends a row for each key of these requests, which go by their numbers: up to the last of its requests they stay rejected.
-pub(crate) fn put_rows(
+/// A row for each key of these requests, which go by their numbers: up to the last of its requests they stay rejected. None where a
+/// processor control number, or an identity of a pharmacy, is no text that settings spell.
+pub(crate) fn rows_of(
     alloc: Global,
-    out: &mut Vec<u8>,
     rejected: &[(u64, RouteKey)],
-) -> Result<Result<(), Unspelled>, AllocError> {
+) -> Result<Option<Vec<u8>>, AllocError> {
+    let mut out = Vec::new(alloc);
     for last in &lasts_of(alloc, rejected)? {
-        if !put_row(alloc, out, last)? {
-            return Ok(Err(Unspelled(last.number)));
+        if !put_row(alloc, &mut out, last)? {
+            return Ok(None);
         }
     }
-    Ok(Ok(()))
+    Ok(Some(out))
 }
 
 /// Each key, with the last of its requests.

@@ -1,6 +1,5 @@
 //! What is told of a log.
 
-use bin_routes::RouteKey;
 use log_growth::{Gone, OverFault};
 use node_service::ServiceFault;
 use std::alloc::{AllocError, Global};
@@ -11,8 +10,8 @@ use world_setup::Node;
 pub(crate) enum Stays {
     /// It is a log of neither settings, or its node does not open from it under the new ones.
     Fault(OverFault),
-    /// These entries of this node have a rejection for want of a route, which their requests have under the new settings.
-    Rerouted(Node, Vec<(u64, RouteKey)>),
+    /// An entry of this node has a rejection for want of a route, which its request has under the new settings.
+    Rerouted(Node, u64),
 }
 
 /// For what in the routes a node does not make its log under the new settings, where these may lead new providers to other
@@ -44,7 +43,7 @@ pub(crate) fn put_line(
             refused(alloc, name, *node, fault, hint)?
         }
         Err(Stays::Fault(fault)) => unread(alloc, name, fault)?,
-        Err(Stays::Rerouted(node, entries)) => rerouted(alloc, name, *node, entries)?,
+        Err(Stays::Rerouted(node, entry)) => rerouted(alloc, name, *node, *entry)?,
     };
     lines.extend_from_slice(line.as_bytes())
 }
@@ -67,18 +66,9 @@ fn refused(
     format!(in alloc; "{name}: {kind} {number} does not go over: {fault}{hint}\n")
 }
 
-/// The line of a log with rejections that do not stay.
-fn rerouted(
-    alloc: Global,
-    name: &str,
-    node: Node,
-    entries: &[(u64, RouteKey)],
-) -> Result<String, AllocError> {
+/// The line of a log with a rejection that does not stay.
+fn rerouted(alloc: Global, name: &str, node: Node, entry: u64) -> Result<String, AllocError> {
     let (kind, number) = named(node);
-    let entry = match entries.first() {
-        Some((entry, _)) => *entry,
-        None => 0,
-    };
     format!(in alloc;
         "{name}: {kind} {number} does not go over: entry {entry} was rejected for want of a route, and its request has one now\n"
     )
