@@ -1,7 +1,8 @@
 /*
 ** A disk that fails, for tests/disks: preloaded into a host, it looks into the folder that TRIAL_DISK names. Where a file `eio` is there, syncs
 ** of logs fail, where `eio-folder` is there those of folders; where `full` is there, a log takes half of what is written to it, and then
-** nothing; where `slow` is there, a sync takes half a second. Each sync is noted in `synced`. For hosts/torture, where TRIAL_SIZES is set: beside
+** nothing; where `slow` is there, a sync takes half a second; where `other` is there, the disk has another first byte of a log than the kernel
+** shows. Each sync is noted in `synced`. For hosts/torture, where TRIAL_SIZES is set: beside
 ** a log, LOG.synced has how many bytes it had when its last sync began that has succeeded, and each sync of a log takes so many microseconds
 ** more, as a disk's does.
 */
@@ -16,6 +17,7 @@
 #include <string.h>
 #include <sys/stat.h>
 #include <sys/syscall.h>
+#include <sys/uio.h>
 #include <unistd.h>
 
 static bool is_on(const char *name) {
@@ -104,4 +106,12 @@ ssize_t write(int file, const void *bytes, size_t size) {
         size /= 2;
     }
     return syscall(SYS_write, file, bytes, size);
+}
+
+/* hosts/reread reads so what the disk has. */
+ssize_t readv(int file, const struct iovec *parts, int count) {
+    off_t at = lseek(file, 0, SEEK_CUR);
+    ssize_t size = syscall(SYS_readv, file, parts, count);
+    if (size > 0 && at == 0 && is_log(file) && is_on("other")) ((char *)parts[0].iov_base)[0] ^= 1;
+    return size;
 }

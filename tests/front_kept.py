@@ -1,7 +1,9 @@
-"""What the front's receipts let be told, for tests/front-pieces: of a payment that is taken back exactly one wins, the telling or the reversal."""
+"""What the front's receipts let be told, for tests/front-pieces: of a payment that is taken back exactly one wins, the telling or the reversal. And
+whether it says that it serves."""
 
 import pathlib
 import tempfile
+import types
 
 from front_calls import billing
 from network import expect
@@ -70,3 +72,20 @@ def kept():
         other.does("seen", 1, PAID)
         expect(other.told("c", DUPLICATE) == DUPLICATE, "a duplicate of what stands is not told")
         expect(other.due() == 0, "a payment of which a duplicate was told is reversed")
+
+
+async def ready():
+    """A front says that it serves once each pharmacy is reached, and else which is not."""
+    from front_service.health import Health
+    from front_service.problems import Problem
+
+    node = types.SimpleNamespace(is_connected=False)
+    health = Health({"ph1": node}, types.SimpleNamespace(is_changed=lambda: False), lambda: ["ph1"])
+    try:
+        await health.serves(None)
+        told = ""
+    except Problem as problem:
+        told = problem.body()
+    expect("NotReady" in told and "ph1 is not reached" in told, f"a front serves whose pharmacy is not reached: {told}")
+    node.is_connected = True
+    expect((await health.serves(None)).status == 200, "a front does not serve whose pharmacy is reached")
