@@ -59,6 +59,8 @@ static void try_line(struct input *input) {
     one.text = message_of(subject, NULL, text.at, text.size);
     bool is_packet = sender_of(host.given.name, subject, sender);
     expect(!is_packet || (strlen(sender) >= 3 && strlen(sender) <= 7 && sender[strspn(sender + 2, "0123456789") + 2] == '\0'));
+    /* A node has one name: `sw01` is nobody. */
+    expect(!is_packet || sender[2] != '0');
     is_wait(&one);
     say_refused(&one, host.given.name, "info", "a message", "a reason");
     memcpy(one.sender, sender, sizeof sender);
