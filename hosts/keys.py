@@ -2,10 +2,11 @@
 whoever takes a packet looks whether the signature holds. Debian's libsodium makes the keys."""
 
 import ctypes
-import os
+import functools
 import pathlib
 import secrets
 import sys
+from collections.abc import Collection, Iterable, Iterator
 from typing import Any
 
 from settings import Settings
@@ -15,14 +16,22 @@ HEAD = """# Written by hosts/permissions: the keys under which signatures of nod
 """
 
 
-def public_of(seed: bytes) -> bytes:
-    """The key under which signatures of this seed's hold."""
+@functools.cache
+def sodium() -> ctypes.CDLL:
+    """Debian's libsodium, which is begun."""
     try:
         library = ctypes.CDLL("libsodium.so.23")
     except OSError:
         sys.exit("there is no libsodium: apt-get install libsodium23")
+    if library.sodium_init() < 0:
+        sys.exit("libsodium makes no key")
+    return library
+
+
+def public_of(seed: bytes) -> bytes:
+    """The key under which signatures of this seed's hold."""
     public, secret = ctypes.create_string_buffer(KEY_BYTES), ctypes.create_string_buffer(2 * SEED_BYTES)
-    if library.sodium_init() < 0 or library.crypto_sign_seed_keypair(public, secret, seed) != 0:
+    if sodium().crypto_sign_seed_keypair(public, secret, seed) != 0:
         sys.exit("libsodium makes no key")
     return public.raw
 
@@ -49,56 +58,77 @@ def route_line(row: dict[str, Any]) -> str:
 
 
 class Keys:
-    """The keys of a folder."""
+    """The keys of a folder. Of each node the seed in its file and the keys in `keys` are looked at once, and what is written is told piece by
+    piece: there may be 65,535 nodes and more."""
 
     def __init__(self, folder: pathlib.Path) -> None:
         self._folder = folder
-        self.network, self._known = secrets.token_hex(NETWORK_BYTES), dict[str, list[str]]()
+        self.network, self._known = secrets.token_hex(NETWORK_BYTES), dict[str, tuple[bytes, ...]]()
+        self._drawn: dict[str, bytes] = {}
         if self.are_there(folder):
-            self._read((folder / "keys").read_text(encoding="ascii"))
+            with (folder / "keys").open(encoding="ascii") as file:
+                self._read(file)
 
     @staticmethod
     def are_there(folder: pathlib.Path) -> bool:
         return (folder / "keys").exists()
 
-    def _read(self, text: str) -> None:
-        for line in text.splitlines():
+    def _read(self, lines: Iterable[str]) -> None:
+        for line in lines:
             word = line.split()
             if line.startswith("network "):
                 self.network = word[1]
             elif line.startswith("key "):
-                self._known.setdefault(word[1], []).append(word[2])
+                self._known[word[1]] = (*self._known.get(word[1], ()), bytes.fromhex(word[2]))
 
-    def _own(self, node: str) -> str | None:
+    def _own(self, node: str) -> bytes | None:
         """The seed in a node's file; nothing where that is not there, or another's."""
-        path = self._folder / f"{node}.key"
-        word = path.read_text(encoding="ascii").split() if path.exists() else []
-        return word[1] if len(word) == 2 and word[0] == node and len(word[1]) == 2 * SEED_BYTES else None
+        try:
+            with open(f"{self._folder}/{node}.key", encoding="ascii") as file:
+                word = file.read().split()
+        except FileNotFoundError:
+            return None
+        is_own = len(word) == 2 and word[0] == node and len(word[1]) == 2 * SEED_BYTES
+        return bytes.fromhex(word[1]) if is_own else None
 
-    def _draw(self, node: str) -> str:
+    def _draw(self, node: str) -> bytes:
         """A new key, which the node signs with from now on; under which signatures hold."""
-        seed = secrets.token_bytes(SEED_BYTES)
-        self.written.append((self._folder / f"{node}.key", f"{node} {seed.hex()}\n"))
-        return public_of(seed).hex()
+        self._drawn[node] = secrets.token_bytes(SEED_BYTES)
+        return public_of(self._drawn[node])
 
-    def complete(self, settings: Settings, turned: list[str], retired: list[str]) -> list[tuple[pathlib.Path, str]]:
-        """The files to write, in this order: each node has one key, or two where it is being turned. A node without a file gets a new key,
-        and what it had holds no more."""
-        self.written: list[tuple[pathlib.Path, str]] = []
-        known = {}
+    def _of(self, node: str, is_turned: bool, is_retired: bool) -> tuple[bytes, ...]:
+        """The keys of a node from now on: one, or two where it is being turned. A node without a file gets a new key, and what it had holds no
+        more."""
+        own, there = self._own(node), self._known.get(node, ())
+        public = public_of(own) if own else b""
+        if not own or public not in there:
+            return (self._draw(node),)
+        if is_turned:
+            return (public, self._draw(node))
+        return (public,) if is_retired else there
+
+    def _are_two(self, node: str) -> bool:
+        """Whether a node's key is being turned already."""
+        own, there = self._own(node), self._known.get(node, ())
+        return len(there) > 1 and own is not None and public_of(own) in there
+
+    def _lines(self, settings: Settings, turned: Collection[str], retired: Collection[str]) -> Iterator[str]:
+        """What all hosts have, a line each."""
+        yield f"{HEAD}network {self.network}\n"
         for node in settings.nodes():
-            own, there = self._own(node), self._known.get(node, [])
-            public = public_of(bytes.fromhex(own)).hex() if own else ""
-            if not own or public not in there:
-                known[node] = [self._draw(node)]
-            elif node in turned and len(there) > 1:
+            for key in self._of(node, node in turned, node in retired):
+                yield f"key {node} {key.hex()}\n"
+        for row in settings.routes():
+            yield f"{route_line(row)}\n"
+
+    def complete(
+        self, settings: Settings, turned: Collection[str], retired: Collection[str]
+    ) -> Iterator[tuple[str, Iterable[str]]]:
+        """The files to write, by name, in this order, each before the next one is asked for."""
+        for node in settings.nodes():
+            if node in turned and self._are_two(node):
                 sys.exit(f"permissions: {node} has two keys: --retire-key {node} first")
-            elif node in turned:
-                known[node] = [public, self._draw(node)]
-            else:
-                known[node] = [public] if node in retired else there
-        lines = [f"network {self.network}"]
-        lines += [f"key {node} {key}" for node, keys in known.items() for key in keys]
-        lines += [route_line(row) for row in settings.routes()]
         # A key holds everywhere before anything is signed with it.
-        return [(self._folder / "keys", HEAD + "\n".join([*lines, ""])), *self.written]
+        yield "keys", self._lines(settings, turned, retired)
+        for node, seed in self._drawn.items():
+            yield f"{node}.key", [f"{node} {seed.hex()}\n"]

@@ -16,6 +16,8 @@ import nats
 import subjects
 
 HEAD_BYTES = 46
+# How the file of a log begins that goes on behind closed ones.
+GOES_ON = b"PT\x01"
 # What a server that knows no leader says before the one in charge has answered; and what the one in charge says.
 NO_LEADER, NO_PLACE, NO_MESSAGE, NO_STREAM, WRONG_LAST = 10008, 10005, 10037, 10059, 10071
 ASK_SECONDS = 2.0
@@ -192,6 +194,9 @@ class Log:
 
     async def restore(self, data: bytes) -> int:
         """Appends what a file has and the stream lacks; how many bytes. The stream has to be a beginning of the file."""
+        if data.startswith(GOES_ON):
+            why = "the file goes on behind closed logs, and a stream has all calls: claimnode --join makes one log"
+            raise Fault(f"{self.name}: {why}")
         data = data[: whole_size(data)]
         has, last = await self.read()
         if data[: len(has)] != has:

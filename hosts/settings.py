@@ -1,10 +1,13 @@
 """What a settings file says of nodes: their names, and who sends to whom."""
 
+from __future__ import annotations
+
 import functools
 import pathlib
 import re
 import sys
 import tomllib
+from array import array
 from typing import Any, NoReturn
 
 # The status of a program whose settings are refused.
@@ -26,7 +29,7 @@ class Settings:
         self._given = given
 
     @classmethod
-    def read(cls, name: str) -> "Settings":
+    def read(cls, name: str) -> Settings:
         """Of a file of settings alone; ends the program where it is none."""
         try:
             if not pathlib.Path(name).is_file():
@@ -36,6 +39,8 @@ class Settings:
             if len(data) > MOST_BYTES:
                 refuse(f"{name}: settings have at most {MOST_BYTES} bytes")
             text = data.decode()
+            # The parsed settings of a large network have ten times as many bytes: these are not kept beside them.
+            del data
             if divided := re.search("^---$", text, re.MULTILINE):
                 line = text.count("\n", 0, divided.start()) + 1
                 refuse(f"{name}: settings alone are wanted, the part before line {line}, `---`")
@@ -60,23 +65,39 @@ class Settings:
         if node.startswith("ph"):
             return self._named[int(node[2:]) - 1]
         if node.startswith("pr"):
-            return sorted(self._naming)
-        payers = [f"pr{it}" for it in sorted({route["payer"] for route in self.routes() if "payer" in route})]
-        return payers + self._naming.get(node, [])
+            return self._switches
+        return self._payers + [f"ph{place}" for place in self._naming.get(node, ())]
 
     @functools.cached_property
     def _named(self) -> list[list[str]]:
-        """The switches that each pharmacy names."""
-        return [sorted({f"sw{it}" for it in one.get("nodes", [])}) for one in self._given.get("pharmacy", [])]
+        """The switches that each pharmacy names; those who name the same share one list."""
+        lists: dict[frozenset[str], list[str]] = {}
+        named = []
+        for one in self._given.get("pharmacy", []):
+            switches = frozenset(f"sw{it}" for it in one.get("nodes", []))
+            if switches not in lists:
+                lists[switches] = sorted(switches)
+            named.append(lists[switches])
+        return named
 
     @functools.cached_property
-    def _naming(self) -> dict[str, list[str]]:
-        """The pharmacies that name each switch which is named."""
-        naming: dict[str, list[str]] = {}
+    def _naming(self) -> dict[str, array[int]]:
+        """The places of the pharmacies that name each switch which is named."""
+        naming: dict[str, array[int]] = {}
         for place, switches in enumerate(self._named, 1):
             for switch in switches:
-                naming.setdefault(switch, []).append(f"ph{place}")
+                naming.setdefault(switch, array("I")).append(place)
         return naming
+
+    @functools.cached_property
+    def _switches(self) -> list[str]:
+        """The switches that some pharmacy names."""
+        return sorted(self._naming)
+
+    @functools.cached_property
+    def _payers(self) -> list[str]:
+        """The payers to which some route leads."""
+        return [f"pr{it}" for it in sorted({route["payer"] for route in self.routes() if "payer" in route})]
 
     def routes(self) -> list[dict[str, Any]]:
         """The rows of the routes, as the file has them: some lead to a payer, and some say which requests of a provider stay rejected."""

@@ -13,6 +13,8 @@
 import re
 
 NODE = re.compile(r"(?:ph|sw|pr)[1-9][0-9]{0,4}")
+# Pharmacies from one to another, which one process serves.
+RANGE = re.compile(r"ph([1-9][0-9]{0,4})-ph([1-9][0-9]{0,4})")
 USER = re.compile(r"[A-Za-z0-9_-]{1,64}")
 # A packet has at most 131,144 printed bytes, a request 131,072, its reference 256; what is longer is none.
 MOST_BYTES = 131_400

@@ -22,6 +22,7 @@
 **
 ** The calls, by what they are for:
 **
+**     settings      vogrilas_open_settings, vogrilas_open_under, vogrilas_close_settings: for many nodes in one process
 **     a node        vogrilas_open, vogrilas_serve, vogrilas_submit, vogrilas_take, vogrilas_adjudicate, vogrilas_records,
 **                   vogrilas_records_after, vogrilas_kept, vogrilas_written, vogrilas_clear, vogrilas_close
 **     what it has   vogrilas_calls, vogrilas_count, vogrilas_most, vogrilas_request, vogrilas_answer, vogrilas_heard, vogrilas_payments
@@ -39,10 +40,11 @@
 **
 **   - What vogrilas_kept() is told is true: the bytes stand at the end of the log's file, whole and in order, and a sync of the
 **     file has succeeded since; of a new file also a sync of its folder. Nobody else writes the file.
-**   - A node begins as VOGRILAS_NODE_INIT (zeros), and from then on only the library changes it. It may be moved to another
-**     place by copying its bytes, if the old place is not used again.
-**   - One call at a time for each node. Different nodes may be in calls of different threads at the same time, and a node may
-**     go from one thread to another, if a lock, or the start or the end of a thread, stands between its calls.
+**   - A node begins as VOGRILAS_NODE_INIT (zeros), settings as VOGRILAS_SETTINGS_INIT, and from then on only the library changes them.
+**     Each may be moved to another place by copying its bytes, if the old place is not used again.
+**   - One call at a time for each node, and for each handle of settings, the one that vogrilas_open_under() is given among them.
+**     Different nodes may be in calls of different threads at the same time, also those that share settings, and a node or
+**     settings may go from one thread to another, if a lock, or the start or the end of a thread, stands between their calls.
 **   - Pointers are never NULL, also where a size is 0, and lead to so much memory as the size says. What a call writes to does
 **     not overlap anything else that it is lent.
 **   - malloc, realloc and free are one allocator's, and align as the C standard asks. No call is made in a signal handler, nor
@@ -72,8 +74,8 @@ typedef uint32_t vogrilas_code;
 enum {
     VOGRILAS_OK = 0,
     VOGRILAS_NO_MEMORY = 1,       /* memory was refused */
-    VOGRILAS_CLOSED = 2,          /* there is no node behind the handle */
-    VOGRILAS_OPEN = 3,            /* there is one already */
+    VOGRILAS_CLOSED = 2,          /* there is no node behind the handle, or there are no settings behind theirs */
+    VOGRILAS_OPEN = 3,            /* there is one already, or there are some */
     VOGRILAS_SHORT_BUFFER = 4,    /* the buffer is too short; the size that is wanted is told */
     VOGRILAS_NAME = 5,            /* the name is none: ph, sw or pr and a number, as ph1 */
     VOGRILAS_SETTINGS = 6,        /* the settings are none, or open no world */
@@ -97,7 +99,8 @@ enum {
     VOGRILAS_FIELD_SEPARATOR = 24, /* a separator of the message stands in a text */
     VOGRILAS_FIELD_SPACE = 25,    /* a text ends in a space, which would not come back */
     VOGRILAS_FIELD_DIGITS = 26,   /* just so many digits are wanted */
-    VOGRILAS_FIELD_DAY = 27       /* the calendar has no such day */
+    VOGRILAS_FIELD_DAY = 27,      /* the calendar has no such day */
+    VOGRILAS_NOT_A_REST = 28      /* what the log's file begins with, after closed logs, is no rest of this node */
 };
 
 /* The words for a code, for people. */
@@ -131,6 +134,7 @@ static inline const char *vogrilas_code_text(vogrilas_code code) {
     case VOGRILAS_FIELD_SPACE: return "the field ends in a space";
     case VOGRILAS_FIELD_DIGITS: return "the field has to be digits";
     case VOGRILAS_FIELD_DAY: return "the field is no day";
+    case VOGRILAS_NOT_A_REST: return "what the log begins with is no rest of this node";
     default: return "no code of this version";
     }
 }
@@ -144,6 +148,15 @@ typedef struct vogrilas_node {
 /* What a node is at first. */
 #define VOGRILAS_NODE_INIT { NULL, false }
 
+/* Settings, or none. Their fields are the library's own. */
+typedef struct vogrilas_settings {
+    void *at;
+    bool held;
+} vogrilas_settings;
+
+/* What settings are at first. */
+#define VOGRILAS_SETTINGS_INIT { NULL, false }
+
 /*
 ** The version of the library: 1000000 * first + 1000 * second + third. It is VOGRILAS_VERSION where library and header
 ** belong together.
@@ -152,26 +165,51 @@ uint32_t vogrilas_version(void);
 
 /*
 ** Opens a node: `settings` are the bytes of a settings file, `name` is as "ph1", `log` has all bytes of the log's file, none
-** where there is no file yet. `seed` has 16 bytes that nobody can guess, as getentropy() draws them: the maps of a payer hash
+** where there is no file yet. The file may be one that goes on after closed ones, as `claimnode --turn` leaves it: then the node
+** begins with what it left at rest, which stands in the file before the log. `seed` has 16 bytes that nobody can guess, as getentropy() draws them: the maps of a payer hash
 ** with them, so that nobody can choose prescription numbers that make it slow. Of fewer bytes the rest count as zeros, and of
 ** more the first 16 count. It is proved that no code, no answer and no record hangs on the seed; what the hashes are is not.
 **
 ** VOGRILAS_OK: the node made each call of the log anew, and sent every byte that the log has. *kept is how many bytes of the
-** log stay: behind them stand zeros, or a record that a crash has cut off, so cut the file there. vogrilas_records() has the
+** file stay, with those before the log: behind them stand zeros, or a record that a crash has cut off, so cut the file there. vogrilas_records() has the
 ** head of a log that begins, and nothing of another: append it before anything else. Nothing is to be written. An earlier process
 ** may have ended before its last sync, so sync the file and its folder, then call vogrilas_kept(), also where there is no head:
 ** until then the node is VOGRILAS_UNSYNCED.
 **
 ** Any other code: the handle is as it was. The first cause that stands is told, in this order: VOGRILAS_OPEN; VOGRILAS_NAME;
-** VOGRILAS_SETTINGS; VOGRILAS_NO_SUCH_NODE; what is wrong with the log's bytes, the first from their start (VOGRILAS_NOT_A_LOG,
-** VOGRILAS_LOG_VERSION, VOGRILAS_DAMAGED_HEAD, VOGRILAS_NO_KIND, VOGRILAS_OTHER_SETTINGS, VOGRILAS_DAMAGED,
-** VOGRILAS_BAD_RECORD); VOGRILAS_OTHER_NODE; VOGRILAS_BAD_RECORD where the node does not make the log. *kept is the place of the
-** faulty record at VOGRILAS_DAMAGED and VOGRILAS_BAD_RECORD, from 0, and unchanged at the others. A damaged log is never cut: set
-** it aside, and look at it.
+** VOGRILAS_SETTINGS; VOGRILAS_NO_SUCH_NODE; VOGRILAS_NOT_A_REST, what stands before the log is damaged, or of another node or of
+** other settings; what is wrong with the log's bytes, the first from their start (VOGRILAS_NOT_A_LOG, also of a file that ends before
+** the rest does that it begins with; VOGRILAS_LOG_VERSION, VOGRILAS_DAMAGED_HEAD, VOGRILAS_NO_KIND, VOGRILAS_OTHER_SETTINGS,
+** VOGRILAS_DAMAGED, VOGRILAS_BAD_RECORD); VOGRILAS_OTHER_NODE; VOGRILAS_BAD_RECORD where the node does not make the log. *kept is the
+** place in the file of the faulty record at VOGRILAS_DAMAGED and VOGRILAS_BAD_RECORD, from 0, and unchanged at the others. A damaged
+** log is never cut: set it aside, and look at it.
 */
 vogrilas_code vogrilas_open(vogrilas_node *node, const void *settings, size_t settings_size, const void *name,
                             size_t name_size, const void *log, size_t log_size, const void *seed, size_t seed_size,
                             size_t *kept);
+
+/*
+** Opens settings once for any number of nodes: `text` are the bytes of a settings file, and `seed` is as of vogrilas_open(), for all
+** nodes that are opened under them. What nodes of the same settings have in common is made here, and is in memory once.
+**
+** VOGRILAS_OK: there are settings. Any other code: the handle is as it was, and the first of these stands: VOGRILAS_OPEN, there are
+** some already; VOGRILAS_SETTINGS, the text spells none, or those that open no world.
+*/
+vogrilas_code vogrilas_open_settings(vogrilas_settings *settings, const void *text, size_t text_size, const void *seed, size_t seed_size);
+
+/*
+** Opens a node as vogrilas_open() does, under settings that were opened before: node, codes, *kept, and what is to be done next are those of
+** vogrilas_open() with the text that the settings were opened from, which is proved, and this costs no more than the node's own
+** memory and the walk over its log. VOGRILAS_CLOSED: there are no settings; then nothing has changed. The settings are as they were at each code.
+*/
+vogrilas_code vogrilas_open_under(vogrilas_node *node, vogrilas_settings *settings, const void *name, size_t name_size, const void *log,
+                                  size_t log_size, size_t *kept);
+
+/*
+** Lets settings go. Nodes that were opened under them stay, and go on as they did: the last of all who share them gives their memory
+** back, in the thread that lets it go. A handle without settings stays as it is, so a second close does nothing.
+*/
+void vogrilas_close_settings(vogrilas_settings *settings);
 
 /*
 ** Does what a line asks, and adds to the records and to what was written. A line has no newline at its end:
@@ -292,7 +330,9 @@ static inline uint64_t vogrilas_number_in(const void *written, size_t size, size
 }
 
 /*
-** Tells how many calls the node's log has. VOGRILAS_OK: *calls is told. VOGRILAS_UNSYNCED, VOGRILAS_CLOSED: it is as it was.
+** Tells how many calls the node's log has, those of closed logs before it included: a number that never falls, whatever is closed.
+** A host that knows how many there were once can tell by it a log that was cut, or an older copy.
+** VOGRILAS_OK: *calls is told. VOGRILAS_UNSYNCED, VOGRILAS_CLOSED: it is as it was.
 */
 vogrilas_code vogrilas_calls(vogrilas_node *node, uint64_t *calls);
 
@@ -463,7 +503,8 @@ vogrilas_code vogrilas_describe(const void *message, size_t message_size, uint32
 /*
 ** Judges logs: whether they are one of each node of the settings, and all of them those of one legal run, packets compared byte
 ** for byte. The logs stand in `logs` one behind another, in any order, and `sizes` has the size of each, `count` of them. A torn
-** end of a log is let pass. What is told is what claimaudit writes: a line for each log, then `one legal run of N events` and
+** end of a log is let pass. Each has all calls of its node: a file that goes on after closed ones is VOGRILAS_NOT_A_LOG here, and
+** `claimnode --join` makes all of them one log. What is told is what claimaudit writes: a line for each log, then `one legal run of N events` and
 ** what it left, or `no legal run` and why; `json` is 0 for these lines, and anything else for one object of JSON.
 **
 ** VOGRILAS_OK: there is such a run, VOGRILAS_NO_RUN: there is none; what is told stands in the buffer at both, *size bytes.

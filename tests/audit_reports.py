@@ -57,6 +57,7 @@ def totals(room, text, payments):
         for words, test in (
             ((), lambda it: True),
             (("--from", days[0], "--to", days[0]), lambda it: it["date_of_service"] == days[0]),
+            (("--payer", "1-2,4"), lambda it: it["payer"] in (1, 2, 4)),
             (("--payer", "1", "--pharmacy", "2"), lambda it: (it["payer"], it["pharmacy"]) == (1, 2)),
         ):
             wanted = {}

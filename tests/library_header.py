@@ -23,6 +23,7 @@ SOURCES = {
         "payments": "crates/node_handle/src/payments.rt",
         "part": "crates/node_handle/src/part.rt",
         "handle": "crates/node_handle/src/handle.rt",
+        "settings": "crates/node_handle/src/settings_handle.rt",
         "messages": "crates/message_making/src/fields.rt",
         "rust": "bindings/rust/src/sys.rs",
         "rust codes": "bindings/rust/src/error.rs",
@@ -33,6 +34,7 @@ SOURCES = {
 PARAMETERS = {
     "Global": [],
     "&mut NodeHandle": ["vogrilas_node *"],
+    "&mut SettingsHandle": ["vogrilas_settings *"],
     "&[u8]": ["const void *", "size_t"],
     "&mut [u8]": ["void *", "size_t"],
     "&[usize]": ["const size_t *", "size_t"],
@@ -56,8 +58,11 @@ TYPES = {
     "u64": (8, 8),
     "*mut u8": (8, 8),
     "Part": (8, 8),
+    "SettingsPart": (8, 8),
     "PlainHeader": (57, 1),
 }
+# Structs whose fields are the library's own.
+HANDLES = ("vogrilas_node", "vogrilas_settings")
 wrong = []
 
 
@@ -177,12 +182,14 @@ def compare_structs(c_layout, rust_layout):
     exported = {
         "vogrilas_payment": laid_out(SOURCES["payments"], "PlainPayment"),
         "vogrilas_node": laid_out(SOURCES["handle"], "NodeHandle"),
+        "vogrilas_settings": laid_out(SOURCES["settings"], "SettingsHandle"),
     }
     exported |= {
         f"vogrilas_{name.lower()}": laid_out(SOURCES["messages"], f"Plain{name}")
         for name in ("Header", "Billing", "Reversal")
     }
     python = {"vogrilas_payment": vogrilas_library.RawPayment, "vogrilas_node": vogrilas_library.Handle}
+    python["vogrilas_settings"] = vogrilas_library.SettingsHandle
     python |= {
         f"vogrilas_{name.lower()}": getattr(vogrilas_library, f"Raw{name}")
         for name in ("Header", "Billing", "Reversal")
@@ -201,12 +208,12 @@ def compare_structs(c_layout, rust_layout):
             [c_layout.get(f"{name}.{it}") for it in fields],
             [str(getattr(python[name], it).offset) for it, _ in python[name]._fields_],
         )
-        if name != "vogrilas_node":
+        if name not in HANDLES:
             expect(f"the fields of {name}", fields, list(offsets))
             expect(f"the fields of {name} in Python", fields, [it for it, _ in python[name]._fields_])
         if rust_layout:
             expect(f"the size of {name} in Rust", c_layout.get(name), rust_layout.get(name))
-            there = {it: c_layout[it] for it in c_layout if it.startswith(f"{name}.") and name != "vogrilas_node"}
+            there = {it: c_layout[it] for it in c_layout if it.startswith(f"{name}.") and name not in HANDLES}
             expect(
                 f"the offsets of {name} in Rust",
                 there,

@@ -2,9 +2,9 @@
 ** Trials of the library, for tests/library: handles that are closed, short buffers, logs that are torn, damaged or of others,
 ** texts, and each request for memory refused in turn. malloc, realloc and free are wrapped by the linker.
 **
-**     trials SETTINGS REQUEST [EACH]
+**     trials SETTINGS REQUEST [EACH [TURNED]]
 **
-** With EACH only each EACH-th request is refused.
+** With EACH only each EACH-th request is refused. TURNED is a log of ph1 that claimnode has closed, and that has a call since.
 */
 #include <stdio.h>
 #include <stdlib.h>
@@ -261,6 +261,93 @@ static void try_logs(void) {
     *cent ^= 1;
     check(is_closed(&node), "a log that is refused");
     free(other);
+}
+
+static vogrilas_code open_settings(vogrilas_settings *shared) {
+    return vogrilas_open_settings(shared, settings, settings_size, "0123456789abcdef", 16);
+}
+
+static vogrilas_code open_under(vogrilas_node *node, vogrilas_settings *shared, const char *name, const void *log, size_t size, size_t *kept) {
+    return vogrilas_open_under(node, shared, name, strlen(name), log, size, kept);
+}
+
+/* A log is opened under settings as it is under their text: the same code, and the same place. */
+static void try_same(vogrilas_settings *shared, const char *name, const char *log, size_t size) {
+    vogrilas_node one = VOGRILAS_NODE_INIT, other = VOGRILAS_NODE_INIT;
+    size_t kept = 77, again = 77, records = 0, same = 0;
+    vogrilas_code code = open_as(&one, name, log, size, &kept);
+    check(open_under(&other, shared, name, log, size, &again) == code && again == kept && other.held == one.held, "a node under settings");
+    if (code != VOGRILAS_OK) return;
+    check(vogrilas_records(&one, record, MOST, &records) == VOGRILAS_OK && vogrilas_records(&other, said, MOST, &same) == VOGRILAS_OK &&
+          same == records && memcmp(record, said, same) == 0, "its head");
+    check(is_unsynced(&other, records), "it waits as another does");
+    vogrilas_close(&one);
+    vogrilas_close(&other);
+}
+
+/* Settings that are opened once, and nodes under them: each is as one of its own settings, in any order of opening and letting go. */
+static void try_settings(void) {
+    vogrilas_settings shared = VOGRILAS_SETTINGS_INIT;
+    vogrilas_node node = VOGRILAS_NODE_INIT, other = VOGRILAS_NODE_INIT;
+    static char altered[MOST];
+    size_t kept = 77;
+    long before = lent;
+    vogrilas_close_settings(&shared);
+    check(open_under(&node, &shared, "ph1", "", 0, &kept) == VOGRILAS_CLOSED && kept == 77 && is_closed(&node), "no settings, no node");
+    check(open_under(&node, &shared, "ph", "", 0, &kept) == VOGRILAS_CLOSED && kept == 77, "whatever its name is");
+    check(vogrilas_open_settings(&shared, "again", 5, "", 0) == VOGRILAS_SETTINGS && !shared.held && lent == before, "no settings");
+    check(open_settings(&shared) == VOGRILAS_OK && shared.held, "settings");
+    long settled = lent;
+    check(open_settings(&shared) == VOGRILAS_OPEN && shared.held && lent == settled, "settings twice");
+    check(open_under(&node, &shared, "ph", "", 0, &kept) == VOGRILAS_NAME && kept == 77, "a name under settings");
+    check(open_under(&node, &shared, "ph7", "", 0, &kept) == VOGRILAS_NO_SUCH_NODE && kept == 77 && is_closed(&node), "a node that they have not");
+    check(lent == settled, "who is refused shares nothing");
+    for (size_t size = 0; size <= log_size; size++) try_same(&shared, "ph1", log_bytes, size);
+    try_same(&shared, "pr1", log_bytes, log_size);
+    try_same(&shared, "sw1", "", 0);
+    memcpy(altered, log_bytes, log_size);
+    for (size_t place = 0; place < log_size; place++) {
+        altered[place] ^= 1;
+        try_same(&shared, "ph1", altered, log_size);
+        altered[place] ^= 1;
+    }
+    check(lent == settled, "nodes that were let go share nothing");
+    check(open_under(&node, &shared, "ph1", log_bytes, log_size, &kept) == VOGRILAS_OK && kept == log_size, "a node");
+    check(open_under(&node, &shared, "ph1", log_bytes, log_size, &kept) == VOGRILAS_OPEN, "open twice under settings");
+    check(open_under(&other, &shared, "pr1", "", 0, &kept) == VOGRILAS_OK && kept == 0, "another node");
+    vogrilas_settings moved = shared, none = VOGRILAS_SETTINGS_INIT;
+    shared = none;
+    vogrilas_close_settings(&moved);
+    vogrilas_close_settings(&moved);
+    check(!moved.held && open_under(&node, &moved, "ph1", "", 0, &kept) == VOGRILAS_CLOSED, "settings are let go once");
+    vogrilas_close(&other);
+    uint64_t calls = 0;
+    check(vogrilas_kept(&node, 0) == VOGRILAS_OK && vogrilas_calls(&node, &calls) == VOGRILAS_OK && calls == 1, "the node goes on without their handle");
+    check(vogrilas_serve(&node, "tick", 4) == VOGRILAS_OK, "and is served");
+    vogrilas_close(&node);
+    check(lent == before, "the last who shares settings gives them back");
+    for (long turn = 0;; turn += each) {
+        left = turn;
+        vogrilas_code code = open_settings(&shared);
+        left = -1;
+        check(code == VOGRILAS_OK ? shared.held : code == VOGRILAS_NO_MEMORY && !shared.held, "memory refused while settings are opened");
+        vogrilas_close_settings(&shared);
+        check(lent == before, "memory is given back");
+        if (code == VOGRILAS_OK) break;
+    }
+    check(open_settings(&shared) == VOGRILAS_OK, "settings once more");
+    settled = lent;
+    for (long turn = 0;; turn += each) {
+        left = turn, kept = 77;
+        vogrilas_code code = open_under(&node, &shared, "ph1", log_bytes, log_size, &kept);
+        left = -1;
+        check(code == VOGRILAS_OK || (code == VOGRILAS_NO_MEMORY && is_closed(&node) && kept == 77), "memory refused while a node is opened under settings");
+        vogrilas_close(&node);
+        check(lent == settled, "memory is given back");
+        if (code == VOGRILAS_OK) break;
+    }
+    vogrilas_close_settings(&shared);
+    check(lent == before, "settings are given back");
 }
 
 static void try_texts(void) {
@@ -879,9 +966,65 @@ static void try_memory(void) {
     }
 }
 
+static uint64_t number_at(const char *bytes) {
+    uint64_t number = 0;
+    for (int at = 0; at < 8; at++) number = number << 8 | (unsigned char)bytes[at];
+    return number;
+}
+
+/* Whether a file is refused with this code, and nothing but a place of a record is told. */
+static bool refuses_file(const char *name, const char *file, size_t size, vogrilas_code why, size_t place) {
+    vogrilas_node node = VOGRILAS_NODE_INIT;
+    size_t kept = 77;
+    return open_as(&node, name, file, size, &kept) == why && kept == place && is_closed(&node);
+}
+
+/* A log that goes on behind closed ones: it begins with its rest, and has a call. */
+static void try_turned(const char *path) {
+    static char file[MOST];
+    vogrilas_node node = VOGRILAS_NODE_INIT;
+    uint64_t calls = 0;
+    size_t kept = 77, size = read_file(path, file), rest = (size_t)number_at(file + 3), front = 11 + rest;
+    lent = 0;
+    check(memcmp(file, "PT\x01", 3) == 0 && front + 46 < size, "a log that goes on behind closed ones");
+    check(open_as(&node, "ph1", file, size, &kept) == VOGRILAS_OK && kept == size && is_silent_of(&node, 0, false), "it opens, and all bytes of its file stay");
+    check(vogrilas_kept(&node, 0) == VOGRILAS_OK && vogrilas_calls(&node, &calls) == VOGRILAS_OK && calls == number_at(file + 17) + 1,
+          "its calls are those of closed logs and its own");
+    check(vogrilas_serve(&node, "stop", 4) == VOGRILAS_OK && vogrilas_calls(&node, &calls) == VOGRILAS_UNSYNCED, "a call more");
+    vogrilas_close(&node);
+    check(open_as(&node, "ph1", file, size - 1, &kept) == VOGRILAS_OK && kept == front + 46, "of a torn end the file before it stays");
+    vogrilas_close(&node);
+    check(open_as(&node, "ph1", file, front, &kept) == VOGRILAS_OK && kept == front && is_silent_of(&node, 46, false), "a log without its head has it to append");
+    vogrilas_close(&node);
+    check(refuses_file("pr1", file, size, VOGRILAS_NOT_A_REST, 77), "a rest of another node");
+    for (size_t cut = 3; cut < front; cut++) check(refuses_file("ph1", file, cut, VOGRILAS_NOT_A_LOG, 77), "a file that ends before the rest does");
+    for (size_t at = 11; at < front; at++) {
+        file[at] ^= 1;
+        check(refuses_file("ph1", file, size, at >= 25 && at < 57 ? VOGRILAS_OTHER_SETTINGS : VOGRILAS_NOT_A_REST, 77), "a rest that is damaged");
+        file[at] ^= 1;
+    }
+    check(refuses_file("ph1", file + front, size - front, VOGRILAS_OTHER_SETTINGS, 77), "a log without the rest that it begins with");
+    file[size - 1] ^= 1;
+    check(refuses_file("ph1", file, size, VOGRILAS_DAMAGED, front + 46), "the place in the file of a damaged record");
+    file[size - 1] ^= 1;
+    size_t told = 77;
+    check(vogrilas_audit(settings, settings_size, file, size, &size, 1, 0, said, MOST, &told) == VOGRILAS_NOT_A_LOG && told == 0, "an audit takes no part of a log");
+    check(lent == 0, "all memory of logs that go on is given back");
+    for (long turn = 0;; turn += each) {
+        left = turn;
+        vogrilas_code code = open_as(&node, "ph1", file, size, &kept);
+        left = -1;
+        bool is_done = code == VOGRILAS_OK;
+        check(is_done || (code == VOGRILAS_NO_MEMORY && is_closed(&node)), "memory refused while a log that goes on is opened");
+        vogrilas_close(&node);
+        check(lent == 0, "memory is given back");
+        if (is_done) break;
+    }
+}
+
 int main(int count, char **words) {
-    if (count == 4) each = strtol(words[3], NULL, 10);
-    if (count < 3 || count > 4 || each < 1) return 2;
+    if (count >= 4) each = strtol(words[3], NULL, 10);
+    if (count < 3 || count > 5 || each < 1) return 2;
     settings_size = read_file(words[1], settings);
     memcpy(line, "submit ", 7);
     line_size = 7 + read_file(words[2], line + 7);
@@ -892,6 +1035,7 @@ int main(int count, char **words) {
     try_kept();
     try_on_the_way();
     try_logs();
+    try_settings();
     try_texts();
     try_numbers();
     try_typed();
@@ -908,7 +1052,8 @@ int main(int count, char **words) {
     try_descriptions();
     try_messages();
     try_memory();
-    for (vogrilas_code code = 0; code <= VOGRILAS_FIELD_DAY; code++)
+    if (count == 5) try_turned(words[4]);
+    for (vogrilas_code code = 0; code <= VOGRILAS_NOT_A_REST; code++)
         check(strcmp(vogrilas_code_text(code), vogrilas_code_text(99)) != 0, "a code has words");
     printf("%d trials of the library, %d faults\n", tried, faults);
     return faults != 0;

@@ -13,7 +13,20 @@ import threading
 import unittest
 
 import vogrilas
-from vogrilas import Answer, Billing, Code, FileNode, Header, Node, Refused, Reversal, Ruling, VogrilasError, WrongField
+from vogrilas import (
+    Answer,
+    Billing,
+    Code,
+    FileNode,
+    Header,
+    Node,
+    Refused,
+    Reversal,
+    Ruling,
+    Settings,
+    VogrilasError,
+    WrongField,
+)
 
 SETTINGS = pathlib.Path(os.environ["VOGRILAS_TRIAL_SETTINGS"]).read_bytes()
 REQUEST = vogrilas.unprinted(pathlib.Path(os.environ["VOGRILAS_TRIAL_REQUEST"]).read_bytes().rstrip(b"\n"))
@@ -86,6 +99,28 @@ class Trials(unittest.TestCase):
         pharmacy.close()
         again = self.opened("ph1")
         self.assertEqual((again.answer(1), again.calls), (answer, 2))
+
+    def test_nodes_share_settings(self):
+        with Settings(SETTINGS) as shared:
+            pharmacy, switch = (self.opened(name, shared) for name in ("ph1", "sw1"))
+            payer = Node(shared, "pr1")
+            for name, code in (("ph", Code.NAME), ("ph7", Code.NO_SUCH_NODE)):
+                self.fails(code, Node, shared, name)
+            with self.assertRaises(TypeError):
+                Node(shared, b"ph1")
+        self.fails(Code.CLOSED, Node, shared, "ph1")
+        self.fails(Code.SETTINGS, Settings, b"again")
+        with self.assertRaises(TypeError):
+            Settings("text")
+        payer.synced(len(payer.records()))
+        asked = switch.take("ph1", pharmacy.submit(REQUEST).sent[0].data).sent[0]
+        payer.take("sw1", asked.data)
+        payer.synced(len(payer.records()))
+        ruled = vogrilas.read_said(payer.written()).sent[0]
+        self.assertEqual(pharmacy.take("sw1", switch.take("pr1", ruled.data).sent[0].data).sent, ())
+        answer = pharmacy.answer(1)
+        pharmacy.close()
+        self.assertEqual(self.opened("ph1").answer(1), answer)
 
     def test_payer_that_asks(self):
         asking = SETTINGS.replace(b"[payer.prices]", b'asks = "claims"\n[payer.prices]')
@@ -302,6 +337,24 @@ class Trials(unittest.TestCase):
             path.write_bytes(kept)
             with FileNode(SETTINGS, "ph1", path) as again:
                 self.assertEqual(again.calls, 2)
+
+    def test_log_that_is_replaced_while_it_is_opened(self):
+        self.opened("ph1").close()
+        path, files = self.folder / "ph1.log", vogrilas._file_node.fcntl
+        flock, whole = files.flock, path.read_bytes()
+
+        def late(file, how):
+            path.rename(self.folder / "closed")
+            path.write_bytes(b"")
+            flock(file, how)
+
+        files.flock = late
+        try:
+            with self.assertRaisesRegex(OSError, "replaced while it was opened"):
+                FileNode(SETTINGS, "ph1", path)
+        finally:
+            files.flock = flock
+        self.assertEqual(((self.folder / "closed").read_bytes(), path.read_bytes()), (whole, b""))
 
     def test_sync_that_fails(self):
         pharmacy = self.opened("ph1")
@@ -532,6 +585,44 @@ class Trials(unittest.TestCase):
         self.fails(Code.CLOSED, node.answer, 1, 1)
         self.fails(Code.CLOSED, node.payments)
         self.fails(Code.CLOSED, lambda: node.count)
+
+    def test_rows_of_many_maps(self):
+        """A book of more rows and payments than its first maps take: those of before and after are found, reversed and paid again."""
+        rows, asked = 75_000, (1, 40_000, 73_000, 73_665, 74_000, 75_000)
+        settings = SETTINGS.replace(b"tries = 1\n", b"tries = 1\n[limits]\nentries = 100000\n").replace(
+            b"cap = 1000\n", b"cap = 100000\n"
+        )
+        payer = Node(settings, "pr1")
+        payer.synced(len(payer.records()))
+
+        def ruled(number, request):
+            payer.take("sw1", b"PS\x01\x01\0\1" + number.to_bytes(8, "big") + len(request).to_bytes(4, "big") + request)
+            payer.synced(len(payer.records()))
+            told = payer.written() if number in first or number > rows else None
+            payer.clear()
+            return told
+
+        def claim(prescription):
+            return REQUEST.replace(b"D2123456", b"D2%07d" % prescription)
+
+        first = dict.fromkeys(asked)
+        for number in range(1, rows + 1):
+            told = ruled(number, claim(number))
+            if number in first:
+                self.assertIn(b"\\FANP", told)
+                first[number] = told
+        self.assertEqual(payer.count, rows)
+        for place, number in enumerate(asked):
+            self.assertEqual(ruled(number, claim(number)), first[number])
+            again, later = rows + 4 * place + 1, rows + 4 * place + 2
+            self.assertIn(b"\\FAND", ruled(again, claim(number)))
+            reversal = bytes(BILLING.reversal()).replace(b"D2123456", b"D2%07d" % number)
+            reversed_once = ruled(later, reversal)
+            self.assertIn(b"\\FANA", reversed_once)
+            self.assertIn(b"\\FANP", ruled(later + 1, claim(number)))
+            self.assertIn(b"\\FAND", ruled(later + 2, claim(number)))
+            self.assertEqual(ruled(later, reversal), reversed_once)
+        self.assertEqual(payer.count, rows + 4 * len(asked))
 
     def test_texts(self):
         every = bytes(range(256))

@@ -20,7 +20,7 @@ import logs  # noqa: E402
 
 # The node whose log is in a stream, and the machines that have hosts of it.
 STREAMED, MACHINES = "pr2", ("a", "b")
-CURRENT_SECONDS, MOST_MENDS = 120, 8
+CURRENT_SECONDS, MOST_MENDS = 120, 2
 DIGITS = "0123456789ABCDEFGHIJKLMNOPQRSTUVWXYZabcdefghijklmnopqrstuvwxyz"
 
 

@@ -2,6 +2,7 @@
 
 from __future__ import annotations
 
+import contextlib
 import difflib
 import os
 import pathlib
@@ -38,7 +39,7 @@ class Runner:
     def __init__(self, room: pathlib.Path, tried: pathlib.Path | None, is_all: bool = False) -> None:
         """Parts try the programs of a folder, or the proved ones."""
         self.room, self.tried, self.is_all = room, tried, is_all
-        self.running: set[subprocess.Popen[bytes]] = set()
+        self.running: dict[subprocess.Popen[bytes], pathlib.Path] = {}
         left_out = ("CLAIMSWITCH_EXPLAIN", "VOGRILAS_PROGRAMS")
         self.environment = {key: value for key, value in os.environ.items() if key not in left_out}
         # Hosts, the library's folder and packages are made once for all parts: in a folder that is no part's.
@@ -71,7 +72,6 @@ class Runner:
         """Runs a command in a folder, for so many seconds at most: its status, or one below zero where it was ended, and what it wrote; what
         it said of faults is among that, or by itself."""
         with open(stdin or os.devnull, "rb") as given:
-            # A session of its own: whatever it started is ended with it.
             process = subprocess.Popen(
                 words,
                 cwd=folder,
@@ -81,30 +81,33 @@ class Runner:
                 stderr=said,
                 start_new_session=True,
             )
-        self.running.add(process)
+        self.running[process] = folder
         most = most or (MOST_SECONDS_OF_ALL if self.is_all else MOST_SECONDS)
         try:
             written, faults = process.communicate(timeout=most)
         except subprocess.TimeoutExpired:
-            self.end(process)
+            self.end(process, folder)
             written, faults = process.communicate()
             written += f"\nended after {most} seconds\n".encode()
         finally:
-            self.running.discard(process)
+            del self.running[process]
         return process.returncode, written, faults or b""
 
     @staticmethod
-    def end(process: subprocess.Popen[bytes]) -> None:
-        """Ends a command with all that it started."""
-        try:
+    def end(process: subprocess.Popen[bytes], folder: pathlib.Path) -> None:
+        """Ends a command with all that it started: its session, and what left that, as servers do, and has its folder for temporary files."""
+        with contextlib.suppress(ProcessLookupError):
             os.killpg(process.pid, signal.SIGKILL)
-        except ProcessLookupError:
-            pass
+        mark = f"TMPDIR={folder}".encode()
+        for file in pathlib.Path("/proc").glob("[0-9]*/environ"):
+            with contextlib.suppress(OSError):
+                if mark in file.read_bytes().split(b"\0"):
+                    os.kill(int(file.parent.name), signal.SIGKILL)
 
     def end_all(self) -> None:
         """Ends all commands that run."""
-        for process in list(self.running):
-            self.end(process)
+        for process, folder in list(self.running.items()):
+            self.end(process, folder)
 
     def part(self, part: Part) -> Outcome:
         """Runs a part."""

@@ -22,12 +22,34 @@ static void check(const char *what, natsStatus status) {
     if (status != NATS_OK) fail("nothing can be heard or said", FACTS(TEXT("reason", natsStatus_GetText(status)), TEXT("by", what)));
 }
 
+/* Has the thread of a range look at this carrier: something came for its node, or is to be done. */
+static void mark(struct carrier *carrier) {
+    struct ready *ready = carrier->ready;
+    if (ready == NULL) return;
+    pthread_mutex_lock(&ready->lock);
+    if (!carrier->is_marked) {
+        carrier->is_marked = true;
+        carrier->next = NULL;
+        *ready->last = carrier;
+        ready->last = &carrier->next;
+        pthread_cond_signal(&ready->came);
+    }
+    pthread_mutex_unlock(&ready->lock);
+}
+
 /* Puts a message at the end of the list; the lock is held. */
 static void join(struct carrier *carrier, struct message *one) {
     one->next = NULL;
     *carrier->last = one;
     carrier->last = &one->next;
     pthread_cond_signal(&carrier->came);
+    mark(carrier);
+}
+
+/* The thread of a library that calls here tells and counts for this node. */
+static void stand_for(const struct carrier *carrier) {
+    counts_for(carrier->counts);
+    said_by(carrier->ready == NULL ? NULL : carrier->name);
 }
 
 /* A message that nobody has, or NULL for want of memory; the lock is held. */
@@ -68,6 +90,7 @@ static bool put(struct carrier *carrier, natsMsg *text, enum sender from, const 
     pthread_mutex_lock(&carrier->lock);
     struct most *waiting = &carrier->waiting[from];
     bool has_room = waiting->count < most_of[from].count && waiting->bytes + size <= most_of[from].bytes;
+    has_room = has_room && !(carrier->ready != NULL && carrier->ready->is_ended);
     if (has_room && (one = fresh(carrier)) != NULL) {
         *one = made;
         waiting->count++;
@@ -88,6 +111,7 @@ static void taken(natsConnection *connection, natsSubscription *subscription, na
     (void)connection, (void)subscription;
     struct carrier *carrier = closure;
     char sender[9];
+    stand_for(carrier);
     bool is_packet = natsMsg_GetDataLength(text) <= MOST_BYTES && sender_of(carrier->name, natsMsg_GetSubject(text), sender);
     if (!is_packet) counts_dropped(NOT_A_PACKET);
     if (!is_packet) acknowledge(carrier, text);
@@ -127,6 +151,7 @@ static void reply_to(struct carrier *carrier, natsMsg *to, const char *line, siz
 /* Takes a line of a caller or an operator, or refuses it. */
 static void asked(struct carrier *carrier, natsMsg *text, enum sender from) {
     bool is_line = natsMsg_GetDataLength(text) <= MOST_BYTES;
+    stand_for(carrier);
     if (is_line && put(carrier, text, from, NULL)) return;
     const struct message lost = { .text = text, .from = from };
     /* What two hosts hear one of them tells. */
@@ -245,27 +270,52 @@ static void subscribe(struct carrier *carrier, enum sender from, const char *for
     check(subject, natsSubscription_SetPendingLimits(carrier->subscriptions[from], MOST_COMING, MOST_COMING_BYTES));
 }
 
-struct carrier *carrier_open(const char *name, const struct access *access, volatile sig_atomic_t *is_stopping) {
+/* Has a condition whose waits are over by the clock that nobody sets. */
+static void begin_condition(pthread_cond_t *came) {
+    pthread_condattr_t kind;
+    pthread_condattr_init(&kind);
+    pthread_condattr_setclock(&kind, CLOCK_MONOTONIC);
+    pthread_cond_init(came, &kind);
+    pthread_condattr_destroy(&kind);
+}
+
+struct carrier *carrier_made(const char *name, const struct access *access) {
     struct carrier *carrier = calloc(1, sizeof *carrier);
     if (carrier == NULL) fail_memory();
     carrier->name = name;
     carrier->is_kept = access->is_kept;
     carrier->last = &carrier->first;
     pthread_mutex_init(&carrier->lock, NULL);
-    pthread_condattr_t kind;
-    pthread_condattr_init(&kind);
-    pthread_condattr_setclock(&kind, CLOCK_MONOTONIC);
-    pthread_cond_init(&carrier->came, &kind);
+    begin_condition(&carrier->came);
+    return carrier;
+}
+
+void carrier_connect(struct carrier *carrier, const struct access *access, bool is_range, volatile sig_atomic_t *is_stopping) {
     natsOptions *options = options_of(carrier, access);
+    /* A subscription has a thread of its own otherwise. */
+    if (is_range) check("options", natsOptions_UseGlobalMessageDelivery(options, true));
     carrier->connection = access_connect(options, is_stopping);
     natsOptions_Destroy(options);
-    if (carrier->connection == NULL) return carrier;
-    counts_connected(true);
-    subscribe(carrier, FROM_NODE, access->is_kept ? "deliver.%s" : "claims.%s.from.*", taken);
+    if (carrier->connection != NULL) counts_connected(true);
+}
+
+void carrier_hear(struct carrier *carrier) {
+    subscribe(carrier, FROM_NODE, carrier->is_kept ? "deliver.%s" : "claims.%s.from.*", taken);
     subscribe(carrier, FROM_OPERATOR, "claims.%s.operate", operated);
-    if (!begins(name, strlen(name), "sw")) subscribe(carrier, FROM_CALLER, "claims.%s.call", called);
+    if (!begins(carrier->name, strlen(carrier->name), "sw")) subscribe(carrier, FROM_CALLER, "claims.%s.call", called);
+}
+
+void carrier_heard(struct carrier *carrier) {
     /* Whoever reads that the node is ready may ask it at once. */
     natsConnection_FlushTimeout(carrier->connection, STOP_MS);
+}
+
+struct carrier *carrier_open(const char *name, const struct access *access, volatile sig_atomic_t *is_stopping) {
+    struct carrier *carrier = carrier_made(name, access);
+    carrier_connect(carrier, access, false, is_stopping);
+    if (carrier->connection == NULL) return carrier;
+    carrier_hear(carrier);
+    carrier_heard(carrier);
     return carrier;
 }
 
@@ -273,16 +323,45 @@ void carrier_wake(struct carrier *carrier) {
     pthread_mutex_lock(&carrier->lock);
     carrier->is_woken = true;
     pthread_cond_signal(&carrier->came);
+    mark(carrier);
     pthread_mutex_unlock(&carrier->lock);
 }
 
-struct message *take_all(struct carrier *carrier, double seconds, bool takes) {
+/* The moment so many seconds from now. */
+static struct timespec in_seconds(double seconds) {
     struct timespec until;
     double whole_seconds = floor(seconds > 0 ? seconds : 0);
     clock_gettime(CLOCK_MONOTONIC, &until);
     until.tv_sec += (time_t)whole_seconds;
     until.tv_nsec += (long)(((seconds > 0 ? seconds : 0) - whole_seconds) * 1e9);
     if (until.tv_nsec >= 1000000000L) until.tv_sec++, until.tv_nsec -= 1000000000L;
+    return until;
+}
+
+void ready_begin(struct ready *ready) {
+    *ready = (struct ready){ .first = NULL };
+    ready->last = &ready->first;
+    pthread_mutex_init(&ready->lock, NULL);
+    begin_condition(&ready->came);
+}
+
+struct carrier *ready_take(struct ready *ready, double seconds) {
+    struct timespec until = in_seconds(seconds);
+    pthread_mutex_lock(&ready->lock);
+    while (ready->first == NULL && pthread_cond_timedwait(&ready->came, &ready->lock, &until) == 0) continue;
+    struct carrier *first = ready->first;
+    ready->first = NULL;
+    ready->last = &ready->first;
+    for (struct carrier *one = first; one != NULL; one = one->next) {
+        one->is_marked = false;
+        one->next_taken = one->next;
+    }
+    pthread_mutex_unlock(&ready->lock);
+    return first;
+}
+
+struct message *take_all(struct carrier *carrier, double seconds, bool takes) {
+    struct timespec until = in_seconds(seconds);
     pthread_mutex_lock(&carrier->lock);
     while ((carrier->first == NULL || !takes) && !carrier->is_woken && pthread_cond_timedwait(&carrier->came, &carrier->lock, &until) == 0) continue;
     struct message *batch = takes ? carrier->first : NULL;

@@ -6,12 +6,18 @@
 #include <stdint.h>
 
 struct bytes;
+struct counts;
 
 /* Why a message is not handed to the node. */
 enum why { NOT_A_PACKET, HELD_BACK, FULL, NO_INBOX, WOULD_BE_FULL, UNDER_WAY, RULES_FULL, UNSIGNED, FORGED, WRONG_PAYER, UNASKED,
            REROUTED, WHYS };
 
 enum call { CALL_SUBMIT, CALL_ANSWER, CALL_TAKE, CALL_ADJUDICATE, CALL_TICK, CALL_PLAN, CALL_TERMS, CALL_STOP, CALL_START, CALL_OTHER, CALLS };
+
+/* What a node of a range is counted by, and whose the calling thread counts from now on: that node's, or with NULL those of a node that is alone
+   in its process, which is how each thread begins. */
+struct counts *counts_made(void);
+void counts_for(struct counts *counts);
 
 void counts_call(const char *line, size_t size);
 void counts_refusal(const char *name, size_t size);
@@ -60,6 +66,13 @@ struct follower {
 void counts_stream(bool owns, bool differs, uint64_t sequence, uint64_t lag, const struct follower *follower, int count);
 /* The metrics of a node as Prometheus reads them; the log's path is NULL where nothing is kept. */
 struct bytes counts_text(const char *node, const char *log);
+/* A node of a range. */
+struct counted {
+    const char *node, *log;
+    struct counts *counts;
+};
+/* What of all nodes of a range is told together: the state of each; the rest is told of one node alone. */
+struct bytes counts_range_text(const char *range, const struct counted *node, size_t count);
 /* Why the node does not serve, or NULL; and whether its thread was heard of lately. */
 const char *counts_unready(void);
 bool counts_lives(void);

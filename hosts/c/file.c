@@ -59,6 +59,12 @@ static _Noreturn void fail_synced(const char *path, const char *why) {
     fail_with(REFUSED, why, FACTS(TEXT("reason", reason), TEXT("file", path), TEXT("mark", mark)));
 }
 
+/* Whether a log still has its name. */
+static bool has_name(const struct log *log) {
+    struct stat here, there;
+    return fstat(log->file, &here) == 0 && stat(log->path, &there) == 0 && here.st_ino == there.st_ino && here.st_dev == there.st_dev;
+}
+
 struct log log_open(const char *path) {
     char *mark = beside(path, ".sync-failed");
     if (access(mark, F_OK) == 0)
@@ -70,6 +76,8 @@ struct log log_open(const char *path) {
     if (fstat(log.file, &at) != 0 || !S_ISREG(at.st_mode))
         fail_with(REFUSED, "the log is no file that keeps what is written", FACTS(TEXT("file", path)));
     if (flock(log.file, LOCK_EX | LOCK_NB) != 0) fail("another process has the log", FACTS(TEXT("file", path)));
+    /* Who closed it in between has put another file in its place, and nothing may be appended to this one. */
+    if (!has_name(&log)) fail("the log was replaced while it was opened", FACTS(TEXT("file", path)));
     return log;
 }
 
@@ -100,15 +108,18 @@ void log_cut(const struct log *log, const struct bytes *bytes, size_t kept) {
     free(name);
 }
 
+void log_sync_folder(const struct log *log) {
+    if (!sync_folder_of(log->path)) fail_synced(log->path, "the folder is not synced");
+}
+
 void log_sync_all(const struct log *log) {
     if (fsync(log->file) != 0) fail_synced(log->path, "the log is not synced");
-    if (!sync_folder_of(log->path)) fail_synced(log->path, "the folder is not synced");
+    log_sync_folder(log);
 }
 
 /* Ends where the log has lost its name, and keeps beside its place what it has: nobody would find the file again. */
 static void check_name(const struct log *log) {
-    struct stat here, there;
-    if (fstat(log->file, &here) == 0 && stat(log->path, &there) == 0 && here.st_ino == there.st_ino && here.st_dev == there.st_dev) return;
+    if (has_name(log)) return;
     char ending[64];
     snprintf(ending, sizeof ending, ".removed-%lld", (long long)time(NULL));
     char *name = beside(log->path, ending);

@@ -1,4 +1,5 @@
-/* The keys of a network: FOLDER/keys, which all hosts have, and FOLDER/NODE.key, which is a node's own. hosts/permissions writes both. */
+/* The keys of a network: FOLDER/keys, which all hosts have, and FOLDER/NODE.key, which is a node's own. hosts/permissions writes both. The nodes
+   of a range have what the first file says in memory once. */
 #include <errno.h>
 #include <fcntl.h>
 #include <sys/stat.h>
@@ -15,6 +16,12 @@ struct known {
     unsigned char key[crypto_sign_PUBLICKEYBYTES];
 };
 
+/* How many nodes of this process have the keys and routes of a ring, and of which file. */
+struct shared {
+    size_t users;
+    struct stat seen;
+};
+
 /* What the two files say. */
 struct ring {
     unsigned char network[NETWORK_BYTES], secret[crypto_sign_SECRETKEYBYTES];
@@ -22,7 +29,12 @@ struct ring {
     struct known *known;
     struct route *route;
     size_t count, routes;
+    /* NULL of a ring that no other shares. */
+    struct shared *shared;
 };
+
+/* The ring that was read last, without a node's own key, while a node has it. */
+static struct ring latest;
 
 /* Why they are refused: what, in which file, and in which line of it, or 0. */
 struct fault {
@@ -40,9 +52,20 @@ struct keys {
 };
 
 static void ring_free(struct ring *ring) {
-    free(ring->known);
-    free(ring->route);
+    bool is_last = ring->shared == NULL || --ring->shared->users == 0;
+    if (is_last && ring->shared != NULL && latest.shared == ring->shared) latest = (struct ring){ .shared = NULL };
+    if (is_last) {
+        free(ring->known);
+        free(ring->route);
+        free(ring->shared);
+    }
     sodium_memzero(ring, sizeof *ring);
+}
+
+/* Whether a file is the same, as it was. */
+static bool is_same(const struct stat *now_is, const struct stat *was) {
+    return was->st_ino == now_is->st_ino && was->st_size == now_is->st_size && was->st_mtim.tv_sec == now_is->st_mtim.tv_sec &&
+           was->st_mtim.tv_nsec == now_is->st_mtim.tv_nsec;
 }
 
 /* The bytes of a file; none, and why, where it is no file that can be read. */
@@ -162,9 +185,27 @@ static bool read_own(const struct keys *keys, struct ring *ring, struct fault *f
     return is_known;
 }
 
+/* The same, or takes what another node of this process has read of the same file. */
+static bool share_keys(const struct keys *keys, struct ring *ring, struct fault *fault) {
+    const struct stat *seen = &keys->seen[0];
+    if (latest.shared != NULL && is_same(&latest.shared->seen, seen)) {
+        *ring = latest;
+        ring->shared->users++;
+        return true;
+    }
+    if (!read_keys(keys, ring, fault)) return false;
+    /* A file that was not seen is no other's. */
+    if (seen->st_ino == 0) return true;
+    ring->shared = calloc(1, sizeof *ring->shared);
+    if (ring->shared == NULL) fail_memory();
+    *ring->shared = (struct shared){ 1, *seen };
+    latest = *ring;
+    return true;
+}
+
 static bool ring_read(const struct keys *keys, struct ring *ring, struct fault *fault) {
     *ring = (struct ring){ .has_network = false };
-    if (read_keys(keys, ring, fault) && read_own(keys, ring, fault)) return true;
+    if (share_keys(keys, ring, fault) && read_own(keys, ring, fault)) return true;
     ring_free(ring);
     return false;
 }
@@ -177,9 +218,7 @@ static bool have_changed(struct keys *keys) {
         struct stat now_is;
         memset(&now_is, 0, sizeof now_is);
         if (stat(path[at], &now_is) != 0) now_is.st_ino = 0;
-        const struct stat *was = &keys->seen[at];
-        is_other = is_other || was->st_ino != now_is.st_ino || was->st_size != now_is.st_size || was->st_mtim.tv_sec != now_is.st_mtim.tv_sec ||
-                   was->st_mtim.tv_nsec != now_is.st_mtim.tv_nsec;
+        is_other = is_other || !is_same(&now_is, &keys->seen[at]);
         keys->seen[at] = now_is;
     }
     return is_other;

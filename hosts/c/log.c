@@ -49,12 +49,8 @@ struct bytes settings_of(const char *settings) {
     return text;
 }
 
-size_t node_open(struct served *node, const struct bytes *settings, const struct bytes *log) {
-    char seed[16];
-    size_t kept = 0;
-    draw(seed, sizeof seed);
-    vogrilas_code code = vogrilas_open(&node->node, settings->at, settings->size, node->name, strlen(node->name), log->at, log->size, seed,
-                                       sizeof seed, &kept);
+/* How many bytes of a log stay, where the node was opened; else ends the process. */
+static size_t opened(const struct served *node, vogrilas_code code, size_t kept) {
     if (code == VOGRILAS_DAMAGED || code == VOGRILAS_BAD_RECORD)
         fail_with(REFUSED, "the log is refused",
                   FACTS(TEXT("reason", vogrilas_code_text(code)), TEXT("file", node->log.path), NUMBER("place", kept)));
@@ -62,6 +58,37 @@ size_t node_open(struct served *node, const struct bytes *settings, const struct
         fail_with(code == VOGRILAS_NO_MEMORY ? 1 : REFUSED, "the node is refused",
                   FACTS(TEXT("reason", vogrilas_code_text(code)), TEXT("file", node->log.path)));
     return kept;
+}
+
+size_t node_open(struct served *node, const struct bytes *settings, const struct bytes *log) {
+    char seed[16];
+    size_t kept = 0;
+    draw(seed, sizeof seed);
+    vogrilas_code code = vogrilas_open(&node->node, settings->at, settings->size, node->name, strlen(node->name), log->at, log->size, seed,
+                                       sizeof seed, &kept);
+    return opened(node, code, kept);
+}
+
+vogrilas_settings settings_open(const char *path) {
+    vogrilas_settings settings = VOGRILAS_SETTINGS_INIT;
+    struct bytes text = settings_of(path);
+    char seed[16];
+    draw(seed, sizeof seed);
+    vogrilas_code code = vogrilas_open_settings(&settings, text.at, text.size, seed, sizeof seed);
+    if (code != VOGRILAS_OK)
+        fail_with(code == VOGRILAS_NO_MEMORY ? 1 : REFUSED, "the settings are refused",
+                  FACTS(TEXT("reason", vogrilas_code_text(code)), TEXT("file", path)));
+    free(text.at);
+    return settings;
+}
+
+void node_open_under(struct served *node, vogrilas_settings *settings) {
+    size_t kept = 0;
+    struct bytes log = log_bytes(&node->log);
+    vogrilas_code code = vogrilas_open_under(&node->node, settings, node->name, strlen(node->name), log.at, log.size, &kept);
+    opened(node, code, kept);
+    if (kept < log.size) log_cut(&node->log, &log, kept);
+    free(log.at);
 }
 
 struct served node_of_file(const char *settings, const char *name, const char *path) {

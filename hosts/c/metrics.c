@@ -4,14 +4,37 @@
 static const double class_end[CLASSES] = { 0.0001, 0.00025, 0.0005, 0.001, 0.0025, 0.005, 0.01, 0.025,
                                            0.05,   0.1,     0.25,   0.5,   1,      2.5,   5,    10 };
 
-/* Where a name stands, or where it would: a place of its own, and the last one for all that come after so many names. */
-static struct named *place_of(struct names *names, const char *name, size_t size) {
+/* How many names have room at first; always a power of two, up to MOST_NAMES. */
+#define FIRST_NAMES 8
+
+/* The place of a name among the places of all, or the free one that it would have. */
+static size_t place_of(const struct names *names, const char *name, size_t size) {
     size_t at = 2166136261u;
     for (size_t byte = 0; byte < size; byte++) at = (at ^ (unsigned char)name[byte]) * 16777619u;
-    for (at %= 2 * MOST_NAMES; names->place[at] != 0; at = (at + 1) % (2 * MOST_NAMES)) {
-        struct named *one = &names->list[names->place[at] - 1];
-        if (memcmp(one->name, name, size) == 0 && one->name[size] == '\0') return one;
+    for (at %= 2 * names->room; names->place[at] != 0; at = (at + 1) % (2 * names->room)) {
+        const struct named *one = &names->list[names->place[at] - 1];
+        if (memcmp(one->name, name, size) == 0 && one->name[size] == '\0') return at;
     }
+    return at;
+}
+
+/* Has room for twice as many names. */
+static void grow(struct names *names) {
+    size_t room = names->room == 0 ? FIRST_NAMES : 2 * names->room;
+    struct named *list = realloc(names->list, room * sizeof *list);
+    if (list == NULL) fail_memory();
+    memset(list + names->room, 0, (room - names->room) * sizeof *list);
+    free(names->place);
+    *names = (struct names){ .list = list, .count = names->count, .room = room, .place = calloc(2 * room, sizeof *names->place) };
+    if (names->place == NULL) fail_memory();
+    for (size_t one = 0; one < names->count; one++) names->place[place_of(names, list[one].name, strlen(list[one].name))] = (uint16_t)(one + 1);
+}
+
+/* A name, which joins the others where it is new: in a place of its own, and in the last one where it comes after so many names. */
+static struct named *found(struct names *names, const char *name, size_t size) {
+    if (names->count == names->room && names->room < MOST_NAMES) grow(names);
+    size_t at = place_of(names, name, size);
+    if (names->place[at] != 0) return &names->list[names->place[at] - 1];
     if (names->count == MOST_NAMES) return &names->list[MOST_NAMES - 1];
     if (++names->count < MOST_NAMES) names->place[at] = (uint16_t)names->count;
     return &names->list[names->count - 1];
@@ -19,7 +42,7 @@ static struct named *place_of(struct names *names, const char *name, size_t size
 
 void names_add(struct names *names, const char *name, size_t size) {
     size = size < sizeof names->list->name - 1 ? size : sizeof names->list->name - 1;
-    struct named *one = place_of(names, name, size);
+    struct named *one = found(names, name, size);
     memcpy(one->name, name, size);
     one->name[size] = '\0';
     one->count++;
@@ -45,8 +68,8 @@ void metric_one(struct bytes *text, const char *node, const char *name, const ch
 
 void metric_names(struct bytes *text, const char *node, const char *name, const char *label, const char *says, const struct names *names) {
     metric_head(text, name, "counter", says);
-    for (const struct named *one = names->list; one < names->list + names->count; one++)
-        add_form(text, "vogrilas_%s{%s=\"%s\",node=\"%s\"} %llu\n", name, label, one->name, node, (unsigned long long)one->count);
+    for (size_t at = 0; at < names->count; at++)
+        add_form(text, "vogrilas_%s{%s=\"%s\",node=\"%s\"} %llu\n", name, label, names->list[at].name, node, (unsigned long long)names->list[at].count);
 }
 
 void metric_fixed(struct bytes *text, const char *node, const char *name, const char *label, const char *says, const char *const *key,

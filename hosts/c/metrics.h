@@ -13,11 +13,12 @@ struct named {
     double last;
 };
 
-/* Names in the order in which they were first counted, and where each stands, by its hash: its place from 1 on, or 0. */
+/* Names in the order in which they were first counted, and where each stands, by its hash: its place from 1 on, or 0. Both grow with the names,
+   and there are twice as many places as names have room. */
 struct names {
-    struct named list[MOST_NAMES];
-    size_t count;
-    uint16_t place[2 * MOST_NAMES];
+    struct named *list;
+    size_t count, room;
+    uint16_t *place;
 };
 
 /* Times, by how many took no longer than each of some. */

@@ -1,5 +1,6 @@
 /*
-** One node of the network as one process over NATS: the library keeps the node, this host its log and its carrier.
+** One node of the network as one process over NATS: the library keeps the node, this host its log and its carrier. Or a range of pharmacies:
+** `node SETTINGS ph1-ph1000 FOLDER` serves each as a process of its own would, with the log FOLDER/ph1.log and so on: range.c.
 **
 **     node SETTINGS NODE [LOG] [--nats URL[,URL..]] [--ca FILE] [--creds FILE] [--login FILE] [--tick SECONDS] [--jetstream]
 **          [--keys FOLDER] [--watch ADDRESS:PORT] [--hold-back MS] [--reserve ROWS] [--ping SECONDS] [-v] [--log file|stream] [--copies 1|2]
@@ -79,8 +80,7 @@ static void take_descriptors(void) {
     if (made >= 0) close(made);
 }
 
-/* A number from 0 to 1, the same for nobody. */
-static double chance(void) {
+double chance(void) {
     return (double)random() / (double)RAND_MAX;
 }
 
@@ -117,8 +117,7 @@ static bool move(struct host *host) {
     return host->has_moved;
 }
 
-/* Says of a pharmacy which entry has been open longest, where that is long. */
-static void tell_open(struct host *host) {
+void host_tell_open(struct host *host) {
     uint64_t number = 0, open = 0, seconds;
     if (now() < host->next_open) return;
     host->next_open = now() + OPEN_SECONDS;
@@ -145,13 +144,12 @@ static void serve_for_ever(struct host *host) {
         if (now() < host->next_word) continue;
         host->next_word = now() + 1;
         service_tell("WATCHDOG=1");
-        if (ticks) tell_open(host);
+        if (ticks) host_tell_open(host);
         if (host->given.says) say("info", "serves", FACTS(NUMBER("calls", node_calls(&host->node)), NUMBER("syncs", host->node.log.syncs)));
     }
 }
 
-/* Refuses a log that has fewer calls than are known, and counts what the node has before it serves. */
-static void count_rows(struct host *host) {
+void host_learn(struct host *host) {
     uint64_t calls = node_calls(&host->node);
     if ((double)calls < host->given.at_least)
         fail_with(REFUSED, "the log has fewer calls than are known: see docs/RESTORING.md",
@@ -166,7 +164,7 @@ static bool open_node(struct host *host) {
     const struct given *given = &host->given;
     if (host->candidate == NULL) {
         host->node = node_of_file(given->settings, given->name, given->log);
-        count_rows(host);
+        host_learn(host);
         return true;
     }
     struct bytes text = settings_of(given->settings);
@@ -227,7 +225,7 @@ static bool own(struct host *host) {
     node_keep(&host->node, false);
     host->node.at_start = node_calls(&host->node);
     host->candidate->looked = now();
-    count_rows(host);
+    host_learn(host);
     say("info", "has the log", FACTS(TEXT("owner", host->candidate->stream.owner)));
     return true;
 }
@@ -260,12 +258,13 @@ int main(int count, char **word) {
     struct host host = { .given = words(count, word), .is_stopping = &is_stopping };
     said_for(host.given.name, host.given.says);
     rules_check(&host.given.rules);
-    host.keys = keys_open(host.given.keys, host.given.name);
+    if (host.given.last == 0) host.keys = keys_open(host.given.keys, host.given.name);
     struct sigaction action = { .sa_handler = stop }, ignored = { .sa_handler = SIG_IGN };
     sigaction(SIGTERM, &action, NULL);
     sigaction(SIGINT, &action, NULL);
     sigaction(SIGPIPE, &ignored, NULL);
     srandom((unsigned)getpid() ^ (unsigned)time(NULL));
+    if (host.given.last > 0) return range_serve(&host.given, &is_stopping);
     struct candidate candidate;
     if (host.given.is_stream) host.candidate = &candidate;
     bool has_log = open_node(&host);

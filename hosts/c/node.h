@@ -67,6 +67,8 @@ struct fact {
 /* What is told on standard error: an object of JSON a line for each event, or words for people: its time, its level, the node, what happened,
    in words that are the same each time, and the facts: `reason`, `file`, `claim` .. No line has a byte of a message. */
 void said_for(const char *node, bool for_people);
+/* Of which node of a range the calling thread tells from now on; with NULL of no one of them. */
+void said_by(const char *node);
 void say(const char *level, const char *what, const struct fact *facts);
 /* The same of what may happen often: a line a second for each reason, with how many others there were before it (`more`). */
 void say_some(const char *level, const char *what, const char *reason, const struct fact *facts);
@@ -97,6 +99,8 @@ void log_sync(struct log *log);
 int log_to_disk(const struct log *log);
 void log_synced(struct log *log, int error, double seconds);
 void log_sync_all(const struct log *log);
+/* Has the name of a log on disk, and those of all others in its folder. */
+void log_sync_folder(const struct log *log);
 /* The name of a file beside a log. */
 char *beside(const char *path, const char *ending);
 /* Draws bytes that nobody can guess. */
@@ -116,6 +120,9 @@ struct served {
 struct bytes settings_of(const char *settings);
 /* Opens the node over the bytes of its log; how many of them stand whole. Ends the process where they are refused. */
 size_t node_open(struct served *node, const struct bytes *settings, const struct bytes *log);
+/* Settings for many nodes, and the node of a range over its log, which is cut where a crash has torn it. Both end the process where they are refused. */
+vogrilas_settings settings_open(const char *path);
+void node_open_under(struct served *node, vogrilas_settings *settings);
 /* A node whose log is a file alone; where that is NULL a switch, which keeps nothing and begins anew. */
 struct served node_of_file(const char *settings, const char *name, const char *log);
 void node_serve(struct served *node, const char *line, size_t size);
@@ -204,9 +211,25 @@ struct access {
     bool is_kept;
 };
 
+/* The carriers of a range that have something for their nodes, in the order in which they had it; one thread takes them. Once it has ended they
+   take no more messages. */
+struct ready {
+    pthread_mutex_t lock;
+    pthread_cond_t came;
+    struct carrier *first, **last;
+    volatile bool is_ended;
+};
+
 /* A connection, and the messages that came and wait, in order. */
 struct carrier {
     const char *name;
+    /* Of a node of a range, which shares the connection: where it stands where something is there for the node; by what the node is counted, and its
+       host. The next two of the others, as they are marked and as they were taken. */
+    struct ready *ready;
+    struct counts *counts;
+    struct host *host;
+    struct carrier *next, *next_taken;
+    bool is_marked;
     /* The keys by which packets of the node are signed; NULL where they are not. */
     struct keys *keys;
     natsConnection *connection;
@@ -233,6 +256,15 @@ natsOptions *access_options(const struct access *access, const char *name);
 natsConnection *access_connect(natsOptions *options, volatile sig_atomic_t *is_stopping);
 
 struct carrier *carrier_open(const char *name, const struct access *access, volatile sig_atomic_t *is_stopping);
+/* The three parts of it: a carrier without a connection; its connection, in a range one that calls by few threads; and what it hears, which a
+   server knows of once `carrier_heard` has returned. */
+struct carrier *carrier_made(const char *name, const struct access *access);
+void carrier_connect(struct carrier *carrier, const struct access *access, bool is_range, volatile sig_atomic_t *is_stopping);
+void carrier_hear(struct carrier *carrier);
+void carrier_heard(struct carrier *carrier);
+void ready_begin(struct ready *ready);
+/* All carriers of a range that have something, by their `next_taken`; where there is none, those that come within so many seconds, or NULL. */
+struct carrier *ready_take(struct ready *ready, double seconds);
 /* All messages that wait; where there is none, those that come within so many seconds, or none. With `takes` false, and where it is woken, it
    ends before: then there may be none. */
 struct message *take_all(struct carrier *carrier, double seconds, bool takes);
@@ -261,10 +293,17 @@ void carrier_close(struct carrier *carrier);
 /* The syncs of a log by a thread of their own (syncs.c), one at a time. Who begins one has appended what it is for; `syncs_ended` is true once
    behind each that has ended, and with `waits` where one is under way. A failure ends the process there, so nothing is told behind it. */
 struct syncs *syncs_start(struct log *log, struct carrier *carrier);
+/* The same of a log of a range, by threads that all its logs share. They are stopped with the pool, and not with the syncs of one log. */
+struct sync_pool *sync_pool_start(int count);
+void sync_pool_stop(struct sync_pool *pool);
+struct syncs *syncs_in(struct sync_pool *pool, struct log *log, struct carrier *carrier);
 void syncs_begin(struct syncs *syncs);
 bool syncs_ended(struct syncs *syncs, bool waits);
 void syncs_stop(struct syncs *syncs);
 
+/* Those who wait for answers of a node of a range, and of which node they are looked at from now on. */
+struct waits *waits_made(void);
+void waits_for(struct waits *waits);
 /* How many callers may wait for answers, whatever else waits. */
 #define MOST_WAITS 65536
 
@@ -311,6 +350,8 @@ struct rules_given {
    well; `of_log` is a word that was given and is about a log. */
 struct given {
     const char *settings, *name, *log, *watch, *kept, *machine, *keys, *of_log;
+    /* The pharmacies of a range, whose logs are in the folder `log`; both are 0 where there is one node. */
+    unsigned first, last;
     struct access access;
     struct rules_given rules;
     double tick, hold_back, patience, part, copies, reserve, at_least;
@@ -367,12 +408,22 @@ const char *what_refused(const struct message *one);
 size_t host_tell(struct host *host);
 void host_let_go(struct host *host);
 void host_tell_heard(struct host *host, const struct message *batch);
+/* Learns what a node has, once it is open: its room, its calls and rows, and which entries are open. A log of fewer calls than are known is refused. */
+void host_learn(struct host *host);
+/* Says of a pharmacy which entry has been open longest, where that is long. */
+void host_tell_open(struct host *host);
+/* Serves all nodes of a range until it is told to end (range.c); the status. */
+int range_serve(const struct given *given, volatile sig_atomic_t *is_stopping);
+/* A number from 0 to 1, the same for nobody. */
+double chance(void);
 /* One turn: all that waits is served and appended, and what came of it is told once it is on disk, in this turn or in a later one. */
 void turn(struct host *host, struct message *batch, bool is_tick);
 /* Has all on disk that was served, and tells what came of it. */
 void host_settle(struct host *host);
 /* In how many seconds a sync is to begin; a turn does it. */
 double sync_wait(const struct host *host);
+/* So many words at most are few: what a turn has said leaves at once then. */
+#define FEW_WORDS 32
 /* Whether more messages are to be served now: not where many wait for their syncs, nor where all is to be on disk for once. */
 bool takes_more(const struct host *host);
 
@@ -387,8 +438,9 @@ bool torment_packet(natsConnection *connection, const char *subject, const char 
 #define torment_packet(connection, subject, text, size, signature) false
 #endif
 
-/* Serves /metrics, /healthz and /readyz at ADDRESS:PORT, by a thread of its own. */
+/* Serves /metrics, /healthz and /readyz at ADDRESS:PORT, by a thread of its own; of a range also /metrics?node=NODE, all of one node. */
 void watch_start(const char *at, const char *node, const char *log);
+void watch_range(const char *at, const char *range, const struct counted *nodes, size_t count);
 /* Tells systemd one thing, as READY=1, where it listens. */
 void service_tell(const char *what);
 

@@ -9,10 +9,16 @@
 
 static const char *of_node = "node";
 static bool is_for_people;
+/* The node of a range of which the calling thread tells; NULL of what is about all of them. */
+static _Thread_local const char *of_one;
 
 void said_for(const char *node, bool for_people) {
     of_node = node;
     is_for_people = for_people;
+}
+
+void said_by(const char *node) {
+    of_one = node;
 }
 
 /* Adds a text as a string of JSON. */
@@ -45,7 +51,7 @@ static void add_object(struct bytes *line, const char *level, const char *what, 
     strftime(text, sizeof text, "%Y-%m-%dT%H:%M:%S", &day);
     add_form(line, "{\"time\": \"%s.%03ldZ\"", text, time.tv_nsec / 1000000);
     add_member(line, "level", level);
-    add_member(line, "node", of_node);
+    add_member(line, "node", of_one == NULL ? of_node : of_one);
     add_member(line, "what", what);
     for (; fact != NULL && fact->name != NULL; fact++) {
         if (fact->is_number) add_form(line, ", \"%s\": %llu", fact->name, (unsigned long long)fact->number);
@@ -57,7 +63,7 @@ static void add_object(struct bytes *line, const char *level, const char *what, 
 /* Adds an event as words. */
 static void add_words(struct bytes *line, const char *what, const struct fact *fact) {
     const char *between = ": ";
-    add_text(line, of_node);
+    add_text(line, of_one == NULL ? of_node : of_one);
     add_text(line, ": ");
     add_text(line, what);
     for (; fact != NULL && fact->name != NULL; fact++) {

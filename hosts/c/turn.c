@@ -1,8 +1,6 @@
 /* Turns: what waits is served, what it recorded is appended, and once a sync has it on disk, what came of it is sent and replied. */
 #include "signed.h"
 
-/* So many words at most are few. */
-#define FEW_WORDS 32
 /* After how many seconds is synced what nobody waits for. */
 #define LAZY_SECONDS 0.005
 /* So many messages may wait for their syncs. */
@@ -15,6 +13,7 @@
 /* Has what a turn said leave at once where it is little: the client gathers what is sent for up to a millisecond, which many want, and one that
    waits for its word does not. */
 static void send_few(struct carrier *carrier) {
+    if (carrier->ready != NULL) return;
     if (carrier->said > 0 && carrier->said <= FEW_WORDS) natsConnection_FlushTimeout(carrier->connection, 1);
     carrier->said = 0;
 }

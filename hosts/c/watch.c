@@ -11,9 +11,12 @@
 
 #define MOST_REQUEST 4096
 
+/* Of a range `nodes` are all of it, and `count` is how many they are; else that is 0. */
 struct watch {
     int socket;
     const char *node, *log;
+    const struct counted *nodes;
+    size_t count;
 };
 
 /* Opens the socket that listens at ADDRESS:PORT. */
@@ -32,12 +35,28 @@ static int listen_at(const char *at) {
     return made;
 }
 
+/* All metrics of a node of a range, which a request names: `GET /metrics?node=ph7`; nothing where it names none. */
+static struct bytes text_of_one(const struct watch *watch, const char *request) {
+    struct bytes text = { NULL, 0, 0 };
+    const char *name = request + strlen("GET /metrics?node=");
+    size_t size = strcspn(name, " \r\n");
+    for (const struct counted *one = watch->nodes; one < watch->nodes + watch->count; one++) {
+        if (strlen(one->node) != size || memcmp(one->node, name, size) != 0) continue;
+        counts_for(one->counts);
+        text = counts_text(one->node, one->log);
+        counts_for(NULL);
+    }
+    return text;
+}
+
 /* Adds the answer to a request: its head, and what was asked for. */
 static void add_answer(struct bytes *answer, const struct watch *watch, const char *request) {
     const char *status = "200 OK", *why = counts_unready();
     struct bytes text = { NULL, 0, 0 };
     if (strncmp(request, "GET /metrics ", 13) == 0) {
-        text = counts_text(watch->node, watch->log);
+        text = watch->count > 0 ? counts_range_text(watch->node, watch->nodes, watch->count) : counts_text(watch->node, watch->log);
+    } else if (watch->count > 0 && strncmp(request, "GET /metrics?node=", 18) == 0 && (text = text_of_one(watch, request)).size > 0) {
+        status = "200 OK";
     } else if (strncmp(request, "GET /healthz ", 13) == 0) {
         status = counts_lives() ? status : "503 Service Unavailable";
         add_text(&text, counts_lives() ? "lives\n" : "the node's thread is not heard of\n");
@@ -85,13 +104,22 @@ static void *serve(void *closure) {
     return NULL;
 }
 
-void watch_start(const char *at, const char *node, const char *log) {
+static void start(const char *at, struct watch given) {
     struct watch *watch = malloc(sizeof *watch);
     pthread_t thread;
     if (watch == NULL) fail_memory();
-    *watch = (struct watch){ listen_at(at), node, log };
+    *watch = given;
+    watch->socket = listen_at(at);
     if (pthread_create(&thread, NULL, serve, watch) != 0) fail("no thread can be had", NULL);
     pthread_detach(thread);
+}
+
+void watch_start(const char *at, const char *node, const char *log) {
+    start(at, (struct watch){ .node = node, .log = log });
+}
+
+void watch_range(const char *at, const char *range, const struct counted *nodes, size_t count) {
+    start(at, (struct watch){ .node = range, .nodes = nodes, .count = count });
 }
 
 void service_tell(const char *what) {

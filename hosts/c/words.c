@@ -13,7 +13,8 @@ static _Noreturn void usage(int status) {
           "            [--keys FOLDER] [--jetstream] [--watch ADDRESS:PORT] [--hold-back MS] [--reserve ROWS] [--ping SECONDS] [-v]\n"
           "            [--log file|stream] [--copies 1|2] [--machine NAME] [--patience SECONDS] [--part BYTES] [--at-least CALLS]\n"
           "            [--rules URL | --rules-tcp [tls://]HOST:PORT [--rules-framing stx|length2|length4]] [--rules-ca FILE]\n"
-          "            [--rules-token FILE] [--rules-wait SECONDS] [--rules-most REQUESTS]\n",
+          "            [--rules-token FILE] [--rules-wait SECONDS] [--rules-most REQUESTS]\n"
+          "       node SETTINGS phFIRST-phLAST FOLDER ..   a range of pharmacies, with the logs FOLDER/phNUMBER.log\n",
           status == 0 ? stdout : stderr);
     exit(status);
 }
@@ -48,6 +49,42 @@ static void check_of_log(const struct given *given) {
     said_for(given->name, given->says);
     if (given->of_log == NULL) return;
     fail_with(REFUSED, "a switch without a log takes no word about one", FACTS(TEXT("word", given->of_log)));
+}
+
+/* The number behind `ph` at the start of a name, in `*behind` what stands after it; 0 of what no pharmacy is called. */
+static unsigned pharmacy_in(const char *name, const char **behind) {
+    char *end;
+    *behind = name;
+    if (strncmp(name, "ph", 2) != 0 || name[2] < '1' || name[2] > '9') return 0;
+    unsigned long number = strtoul(name + 2, &end, 10);
+    *behind = end;
+    return number <= UINT16_MAX ? (unsigned)number : 0;
+}
+
+/* Takes a name as that of a range of pharmacies, if it is one: `ph1-ph1000`. What is none is a node's name, or refused as that. */
+static void take_range(struct given *given) {
+    const char *middle, *end;
+    unsigned first = pharmacy_in(given->name, &middle);
+    if (first == 0 || *middle != '-') return;
+    unsigned last = pharmacy_in(middle + 1, &end);
+    if (last < first || *end != '\0') return;
+    given->first = first;
+    given->last = last;
+}
+
+/* Whether a range of nodes has no such word. */
+static bool is_of_one(const char *word) {
+    static const char *const of_one[] = { "--log", "--copies", "--machine", "--patience", "--part", "--at-least" };
+    for (size_t at = 0; at < sizeof of_one / sizeof *of_one; at++)
+        if (strcmp(word, of_one[at]) == 0) return true;
+    return strncmp(word, "--rules", 7) == 0;
+}
+
+/* Refuses, for a range, a word that it has not. */
+static void check_of_one(const struct given *given, int count, char **word) {
+    said_for(given->name, given->says);
+    for (int at = 1; at < count; at++)
+        if (is_of_one(word[at])) fail_with(REFUSED, "a range of nodes does not take this word", FACTS(TEXT("word", word[at])));
 }
 
 /* The number that a word is. */
@@ -116,6 +153,8 @@ struct given words(int count, char **word) {
     }
     if (found < 2 || (found < 3 && !begins(given.name, strlen(given.name), "sw"))) usage(2);
     if (found < 3) check_of_log(&given);
+    take_range(&given);
+    if (given.last > 0) check_of_one(&given, count, word);
     complete(&given);
     return given;
 }

@@ -12,6 +12,10 @@ void said_for(const char *node, bool for_people) {
     (void)node, (void)for_people;
 }
 
+void said_by(const char *node) {
+    (void)node;
+}
+
 void say(const char *level, const char *what, const struct fact *facts) {
     (void)level, (void)what, (void)facts;
 }

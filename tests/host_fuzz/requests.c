@@ -6,7 +6,7 @@
 void tried(struct input *input) {
     static const char *const begun[] = { "HTTP/1.0 200 OK\r\n", "HTTP/1.0 404 Not Found\r\n", "HTTP/1.0 503 Service Unavailable\r\n" };
     static char answer[1 << 17];
-    const struct watch watch = { -1, "ph1", "ph1.log" };
+    const struct watch watch = { .socket = -1, .node = "ph1", .log = "ph1.log" };
     int ends[2], place = 0;
     size_t size = 0;
     ssize_t count;

@@ -61,10 +61,12 @@ pub enum Code {
     FieldDigits = 26,
     /// A field of a message is no day of the calendar.
     FieldDay = 27,
+    /// What the log's file begins with, after closed logs, is no rest of this node.
+    NotARest = 28,
 }
 
 /// Each code, at the place of its number less one.
-const CODES: [Code; 27] = [
+const CODES: [Code; 28] = [
     Code::NoMemory,
     Code::Closed,
     Code::Open,
@@ -92,6 +94,7 @@ const CODES: [Code; 27] = [
     Code::FieldSpace,
     Code::FieldDigits,
     Code::FieldDay,
+    Code::NotARest,
 ];
 
 /// A call that was not made, and why.
@@ -160,6 +163,7 @@ impl fmt::Display for Error {
             Code::FieldSpace => "the field ends in a space",
             Code::FieldDigits => "the field has to be digits",
             Code::FieldDay => "the field is no day",
+            Code::NotARest => "what the log begins with is no rest of this node",
         })?;
         if let Some(place) = self.place {
             write!(to, ", at byte {place}")?;

@@ -1,6 +1,6 @@
 //! A node with the file of its log.
 
-use crate::{printed, Code, Error, Node, Opened, Payment, Refused, Said};
+use crate::{printed, Code, Error, Node, Opened, Payment, Refused, Said, Settings};
 use std::ffi::OsString;
 use std::fmt;
 use std::fs::{self, File, OpenOptions};
@@ -50,15 +50,32 @@ impl FileNode {
     /// `Disk` where the file cannot be read, is locked by another process, or a sync of it has failed; `Library` with what
     /// refuses the name, the settings or the log.
     pub fn open(settings: &[u8], name: &str, path: impl AsRef<Path>) -> Result<FileNode, FileError> {
-        let path = path.as_ref().to_path_buf();
+        FileNode::open_by(name, path.as_ref(), |log| Node::open(settings, name, log))
+    }
+
+    /// Opens the node of a name under settings that were opened, and the file of its log.
+    ///
+    /// # Errors
+    /// Those of `open`, but for the settings'.
+    pub fn open_under(settings: &Settings, name: &str, path: impl AsRef<Path>) -> Result<FileNode, FileError> {
+        FileNode::open_by(name, path.as_ref(), |log| Node::open_under(settings, name, log))
+    }
+
+    /// Opens the file of a log, and the node over its bytes.
+    fn open_by(name: &str, path: &Path, open: impl FnOnce(&[u8]) -> Result<Opened, Error>) -> Result<FileNode, FileError> {
+        let path = path.to_path_buf();
         let mark = beside(&path, "sync-failed");
         if mark.exists() {
             return Err(other(format!("a sync of the log failed: look at it, and remove {}", mark.display())));
         }
         let mut file = opened(&path)?;
+        // Who closed the log in between has put another file in its place, and nothing may be appended to this one.
+        if !has_name(&file, &path)? {
+            return Err(other(format!("{}: the log was replaced while it was opened; open it again", path.display())));
+        }
         let mut log = Vec::new();
         file.read_to_end(&mut log)?;
-        let Opened { node, kept } = Node::open(settings, name, &log)?;
+        let Opened { node, kept } = open(&log)?;
         let mut opened = FileNode { name: name.into(), path, cut: None, open: None };
         if kept < log.len() {
             opened.cut = Some(write_new(&beside(&opened.path, &format!("cut-{kept}")), &log[kept..])?);
@@ -152,7 +169,7 @@ impl FileNode {
         Ok(self.node()?.most()?)
     }
 
-    /// How many calls the log has.
+    /// How many calls the log has, those of closed logs before it included.
     pub fn calls(&self) -> Result<u64, FileError> {
         Ok(self.node()?.calls()?)
     }
@@ -211,8 +228,7 @@ impl FileNode {
 
     /// That the log still has its name. Where it has lost it what it has is kept beside its place: nobody would find it again.
     fn check_name(&self, file: &mut File) -> Result<(), FileError> {
-        let (here, there) = (file.metadata()?, fs::metadata(&self.path));
-        if there.is_ok_and(|there| (here.dev(), here.ino()) == (there.dev(), there.ino())) {
+        if has_name(file, &self.path)? {
             return Ok(());
         }
         let mut bytes = Vec::new();
@@ -221,6 +237,12 @@ impl FileNode {
         let kept = write_new(&beside(&self.path, "removed"), &bytes)?;
         Err(other(format!("the log was removed or replaced while its node was open; what it had is kept in {}", kept.display())))
     }
+}
+
+/// Whether a file still has its name.
+fn has_name(file: &File, path: &Path) -> io::Result<bool> {
+    let (here, there) = (file.metadata()?, fs::metadata(path));
+    Ok(there.is_ok_and(|there| (here.dev(), here.ino()) == (there.dev(), there.ino())))
 }
 
 /// The file of a log, which nobody else may read or write meanwhile. It is none of the standard ones: where those are closed, what

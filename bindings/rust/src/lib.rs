@@ -33,7 +33,7 @@ pub use error::{Code, Error};
 #[cfg(unix)]
 pub use file_node::{FileError, FileNode};
 pub use message::{Billing, Header, MakingError, Reversal, WrongField};
-pub use node::{Node, Opened};
+pub use node::{Node, Opened, Settings};
 pub use payment::Payment;
 pub use reading::{Answer, Paid, ReadError, Ruling};
 pub use said::{Packet, Refused, Said};

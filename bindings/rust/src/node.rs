@@ -19,17 +19,82 @@ pub struct Node {
 // SAFETY: the library proves that a handle may go to another thread. A node is not `Sync`, so there is one call at a time.
 unsafe impl Send for Node {}
 
-/// A node that was opened, and how many bytes of its log stay. What stands behind them is a record that a crash has cut off:
+/// A node that was opened, and how many bytes of its log's file stay. What stands behind them is a record that a crash has cut off:
 /// cut the file there.
 pub struct Opened {
     /// The node.
     pub node: Node,
-    /// How many bytes of the log stay.
+    /// How many bytes of the file stay.
     pub kept: usize,
 }
 
+/// Settings that are opened once, for any number of nodes: what nodes under the same settings have in common is in memory once. They may go
+/// before the nodes that were opened under them.
+pub struct Settings {
+    // Opening a node takes the settings out of their handle and puts them back.
+    handle: UnsafeCell<sys::SettingsHandle>,
+}
+
+// SAFETY: the library proves that a handle may go to another thread, also while nodes under it are elsewhere. Settings are not `Sync`, so
+// there is one call at a time.
+unsafe impl Send for Settings {}
+
+impl Settings {
+    /// Opens the settings that the bytes of a settings file spell.
+    ///
+    /// # Errors
+    /// `Settings`, `NoMemory`.
+    pub fn open(text: &[u8]) -> Result<Settings, Error> {
+        let settings = Settings { handle: UnsafeCell::new(sys::SettingsHandle::none()) };
+        let seed = seed();
+        // SAFETY: the handle is none yet, and each pointer leads to as many bytes as are said; slices are never null.
+        let code = unsafe {
+            sys::vogrilas_open_settings(
+                settings.handle.get(),
+                text.as_ptr(),
+                text.len(),
+                seed.as_ptr(),
+                seed.len(),
+            )
+        };
+        Error::of(code, 0)?;
+        Ok(settings)
+    }
+}
+
+impl Drop for Settings {
+    fn drop(&mut self) {
+        // SAFETY: the handle is lent whole. A closed one stays as it is.
+        unsafe { sys::vogrilas_close_settings(self.handle.get()) }
+    }
+}
+
 impl Node {
-    /// Opens the node of a name, as `ph1`, from the bytes of a settings file and those of its log.
+    /// Opens the node of a name under settings that were opened, from the bytes of its log's file.
+    ///
+    /// # Errors
+    /// Those of `open`, but for `Settings`.
+    pub fn open_under(settings: &Settings, name: &str, log: &[u8]) -> Result<Opened, Error> {
+        let node = Node { handle: UnsafeCell::new(sys::Handle::none()) };
+        let mut kept = 0;
+        // SAFETY: the node's handle is none yet, that of the settings is lent whole, and each pointer leads to as many bytes as are said.
+        let code = unsafe {
+            sys::vogrilas_open_under(
+                node.handle.get(),
+                settings.handle.get(),
+                name.as_ptr(),
+                name.len(),
+                log.as_ptr(),
+                log.len(),
+                &mut kept,
+            )
+        };
+        Error::of(code, kept)?;
+        Ok(Opened { node, kept })
+    }
+
+    /// Opens the node of a name, as `ph1`, from the bytes of a settings file and those of its log's file, which may go on after closed
+    /// ones, as `claimnode --turn` leaves it.
     ///
     /// # Errors
     /// What refuses the name, the settings or the log; of a faulty record also its place.
@@ -150,7 +215,7 @@ impl Node {
         copied(0, |at, room, size| unsafe { sys::vogrilas_written(self.handle.get(), at, room, size) })
     }
 
-    /// How many calls the node's log has.
+    /// How many calls the node's log has, those of closed logs before it included.
     ///
     /// # Errors
     /// `Unsynced` until all is on disk; `Closed`.

@@ -17,6 +17,20 @@ impl Handle {
     }
 }
 
+/// Settings, or none; their fields are the library's own.
+#[repr(C)]
+pub(crate) struct SettingsHandle {
+    at: *mut u8,
+    held: bool,
+}
+
+impl SettingsHandle {
+    /// No settings.
+    pub(crate) fn none() -> SettingsHandle {
+        SettingsHandle { at: null_mut(), held: false }
+    }
+}
+
 /// The fill number of a reversal that leaves it out.
 pub(crate) const NO_FILL: u8 = 255;
 
@@ -68,7 +82,10 @@ macro_rules! offsets {
 
 /// Sizes and offsets of what C shares, by their names in the header, for the test that compares them.
 pub fn layout() -> Vec<(String, usize)> {
-    let mut told = vec![("vogrilas_node".to_string(), std::mem::size_of::<Handle>())];
+    let mut told = vec![
+        ("vogrilas_node".to_string(), std::mem::size_of::<Handle>()),
+        ("vogrilas_settings".to_string(), std::mem::size_of::<SettingsHandle>()),
+    ];
     let (payment, header) = (Payment::default(), RawHeader::default());
     let (billing, reversal) = (RawBilling::default(), RawReversal::default());
     offsets!(told payment "vogrilas_payment" serial prescription reversed_number cost fee copay total payer reversed_pharmacy bin pcn
@@ -93,6 +110,23 @@ extern "C" {
         seed_size: usize,
         kept: &mut usize,
     ) -> u32;
+    pub(crate) fn vogrilas_open_settings(
+        settings: *mut SettingsHandle,
+        text: *const u8,
+        text_size: usize,
+        seed: *const u8,
+        seed_size: usize,
+    ) -> u32;
+    pub(crate) fn vogrilas_open_under(
+        node: *mut Handle,
+        settings: *mut SettingsHandle,
+        name: *const u8,
+        name_size: usize,
+        log: *const u8,
+        log_size: usize,
+        kept: &mut usize,
+    ) -> u32;
+    pub(crate) fn vogrilas_close_settings(settings: *mut SettingsHandle);
     pub(crate) fn vogrilas_serve(node: *mut Handle, line: *const u8, line_size: usize) -> u32;
     pub(crate) fn vogrilas_submit(node: *mut Handle, request: *const u8, request_size: usize) -> u32;
     pub(crate) fn vogrilas_take(node: *mut Handle, from: *const u8, from_size: usize, packet: *const u8, packet_size: usize) -> u32;

@@ -3,7 +3,7 @@
 
 use std::fs;
 use std::path::PathBuf;
-use vogrilas::{unprinted, Code, Error, FileError, FileNode, Refused, Said};
+use vogrilas::{unprinted, Code, Error, FileError, FileNode, Node, Refused, Said};
 
 const SETTINGS: &[u8] = include_bytes!("../../../examples/embed/settings.toml");
 const REQUEST: &[u8] = include_bytes!("../../../examples/embed/request");
@@ -82,4 +82,31 @@ fn torn_and_removed_logs_are_kept() {
     fs::write(folder.0.join("ph1.log.sync-failed"), "").unwrap();
     let Err(FileError::Disk(fault)) = folder.open("ph1") else { panic!("a failed sync") };
     assert!(fault.to_string().starts_with("a sync of the log failed"), "{fault}");
+}
+
+/// VOGRILAS_TRIAL_TURNED names a log of ph1 that claimnode has closed, and that has a call since: its second submission.
+#[test]
+fn logs_that_go_on_are_opened() {
+    let Some(turned) = std::env::var_os("VOGRILAS_TRIAL_TURNED") else { return };
+    let mut file = fs::read(turned).unwrap();
+    let front = 11 + u64::from_be_bytes(file[3..11].try_into().unwrap()) as usize;
+    let closed = u64::from_be_bytes(file[17..25].try_into().unwrap());
+    let folder = Folder::new("turned");
+    fs::write(folder.log("ph1"), &file).unwrap();
+    let mut pharmacy = folder.open("ph1").unwrap();
+    assert_eq!((pharmacy.calls().unwrap(), pharmacy.count().unwrap()), (closed + 1, 2));
+    assert!(pharmacy.answer(1).unwrap().is_some() && pharmacy.answer(2).unwrap().is_none() && pharmacy.cut().is_none());
+    pharmacy.stop().unwrap();
+    drop(pharmacy);
+    assert!(fs::read(folder.log("ph1")).unwrap().starts_with(&file));
+    assert_eq!(folder.open("ph1").unwrap().calls().unwrap(), closed + 2);
+    let code = |name: &str, file: &[u8]| Node::open(SETTINGS, name, file).err().map(|fault| (fault.code, fault.place));
+    assert_eq!(code("pr1", &file), Some((Code::NotARest, None)));
+    assert_eq!(code("ph1", &file[..front - 1]), Some((Code::NotALog, None)));
+    file[front - 1] ^= 1;
+    assert_eq!(code("ph1", &file), Some((Code::NotARest, None)));
+    file[front - 1] ^= 1;
+    *file.last_mut().unwrap() ^= 1;
+    assert_eq!(code("ph1", &file), Some((Code::Damaged, Some(front + 46))));
+    assert_eq!(Code::NotARest as u32, 28);
 }

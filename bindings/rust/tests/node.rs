@@ -1,6 +1,6 @@
 //! Trials of a node, with the settings and the request of examples/embed.
 
-use vogrilas::{audited, described, printed, unprinted, Code, Error, Node, Opened, Style};
+use vogrilas::{audited, described, printed, unprinted, Code, Error, Node, Opened, Settings, Style};
 
 const SETTINGS: &[u8] = include_bytes!("../../../examples/embed/settings.toml");
 const REQUEST: &[u8] = include_bytes!("../../../examples/embed/request");
@@ -212,4 +212,26 @@ fn nodes_go_to_other_threads() {
     assert!(said.ends_with("number 1\n"));
     assert_eq!(pharmacy.serve(b"answer 1"), "open\n");
     assert_eq!(vogrilas::version(), vogrilas::VERSION);
+}
+
+#[test]
+fn nodes_share_settings() {
+    let settings = Settings::open(SETTINGS).unwrap();
+    let under = |name: &str| Node::open_under(&settings, name, &[]);
+    let mut nodes: Vec<Node> = ["ph1", "sw1", "pr1"].iter().map(|name| under(name).unwrap().node).collect();
+    assert_eq!(under("ph").err().unwrap().code, Code::Name);
+    assert_eq!(under("ph7").err().unwrap().code, Code::NoSuchNode);
+    assert_eq!(Node::open_under(&settings, "ph1", b"no log, and long enough").err().unwrap().code, code_of(SETTINGS, "ph1", b"no log, and long enough").code);
+    assert_eq!(Settings::open(b"again").err().unwrap().code, Code::Settings);
+    let alone = Node::open(SETTINGS, "ph1", &[]).unwrap().node;
+    assert_eq!(nodes[0].records().unwrap(), alone.records().unwrap());
+    drop(settings);
+    let other = nodes.pop().unwrap();
+    let thread = std::thread::spawn(move || other.records().unwrap().len());
+    for node in &mut nodes {
+        let size = node.records().unwrap().len();
+        node.synced(size).unwrap();
+        assert_eq!(node.calls().unwrap(), 0);
+    }
+    assert!(thread.join().unwrap() > 0);
 }

@@ -1,3 +1,8 @@
+pub mod Numbered
+pub mod Shares
+pub mod Owned
+pub mod Dated
+pub mod Members
 pub mod Adding
 pub mod Snocs
 pub mod Ledgers
@@ -11,6 +16,7 @@ pub mod Firsts
 pub mod Lines
 pub mod Rowwise
 pub mod Telling
+pub mod Timed
 pub mod Overflows
 pub mod Readings
 pub mod Received

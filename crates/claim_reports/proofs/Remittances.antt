@@ -10,7 +10,7 @@ use Rattle.claim_reports.specs.declared.rulings.RulingColumns.{RulingColumns}
 use Rattle.table_text.specs.Rows.{csv_row, head_text}
 use Rattle.claim_reports.specs.declared.ledger.Period.{Period}
 use Rattle.claim_reports.specs.declared.settling.Settled.{Settled}
-use Rattle.claim_reports.specs.Rulings.{AreRulingColumns, moves_before, moves_behind, rulings_behind, Ruling, Read, own_row, move_to, numbered, rulings_from, AreRulings, with_ruling, read_own, read_row, read_rows}
+use Rattle.claim_reports.specs.Rulings.{ruling_columns_in, moves_before, moves_behind, rulings_behind, Ruling, Read, own_row, move_to, numbered, rulings_from, AreRulings, with_ruling, read_own, read_row, read_rows}
 use Rattle.claim_reports.specs.declared.ledger.Ledger.{Ledger}
 use Rattle.claim_reports.specs.declared.ledger.Moved.{Moved}
 use Rattle.claim_reports.specs.Ledger.{IsLedgerOf, IsPeriod, TakesAll, back_cents, taken_back}
@@ -239,7 +239,7 @@ lines_end c asked before passed rulings left first out ledger none so_far =
 -- ---- sums
 
 pub summed_is : (table text : List ℕ) (asked : Remittance) (records : List (List (List ℕ))) (columns : RulingColumns) (rulings : List Ruling) (up_to : ℕ) (before moves : List Move) (lines : List Ruling) (period : Period) (settled : Settled)
-    → AreRecordsOf table records → AreRulingColumns records columns → AreRulings asked records columns rulings up_to
+    → AreRecordsOf table records → columns ≡ ruling_columns_in records → AreRulings asked records columns rulings up_to
     → before ≡ moves_before asked.after rulings → lines ≡ rulings_behind asked.after rulings → moves ≡ map (λ (r : Ruling). r.moves) lines
     → IsPeriod before moves period → settled.check + (period.moved.reversed + asked.owed) ≡ period.moved.paid + settled.owed → min settled.check settled.owed ≡ 0
     → text ≡ head_text sum_names ++ csv_row (sums_row asked up_to period settled) → IsSummed table asked text
@@ -262,7 +262,7 @@ summed_is table text asked records columns rulings up_to before moves lines peri
 }
 
 pub remitted_is : (table text : List ℕ) (asked : Remittance) (records : List (List (List ℕ))) (columns : RulingColumns) (rulings : List Ruling) (up_to : ℕ) (before : List Move) (lines : List Ruling)
-    → AreRecordsOf table records → AreRulingColumns records columns → AreRulings asked records columns rulings up_to
+    → AreRecordsOf table records → columns ≡ ruling_columns_in records → AreRulings asked records columns rulings up_to
     → before ≡ moves_before asked.after rulings → lines ≡ rulings_behind asked.after rulings
     → AddsLines columns asked before lines (head_text line_names) text → IsRemitted table asked text
 remitted_is table text asked records columns rulings up_to before lines are have read is_before are_behind adds = record {

@@ -17,49 +17,48 @@ use Rattle.claim_reports.specs.declared.sides.CountedColumns.{CountedColumns}
 use Rattle.claim_reports.specs.declared.sides.EntryColumns.{EntryColumns}
 use Rattle.claim_reports.specs.declared.sides.MadeColumns.{MadeColumns}
 use Rattle.claim_reports.specs.declared.naming.Name.TheVariants as name
+use Rattle.claim_reports.specs.Shelves.{has, is_in}
 use Rattle.claim_reports.specs.Causes.{Cause, bad_if, bad_number, bad_optional, bad_word, column_in, is_this, missing, records_of, table_cause}
 use Rattle.claim_reports.specs.Digits.{filled}
-use Rattle.claim_reports.specs.Tables.{AreRecordsOf, rows_of, column_of, number_in, optional_in, word_in, given_by, ◌>>=◌}
+use Rattle.claim_reports.specs.Tables.{AreGiven, column_of, number_in, optional_in, word_in, ◌>>=◌}
 use Rattle.claim_reports.specs.Comparing.{Findings}
 
 -- ---- what the three tables say
 
--- the columns of the payer and the pharmacy of a payment
-pub record AreParties (records : List (List (List ℕ))) (c : Parties) : Type 0 where
-  pub payer : column_of records (codes "payer") ≡ Some c.payer.place
-  pub pharmacy : column_of records (codes "pharmacy") ≡ Some c.pharmacy.place
+-- the columns of the payer and the pharmacy of a payment, those of its figures, and those of the three tables
+abbrev pub parties_in : List (List (List ℕ)) → Parties
+parties_in records = record { payer = column_in records name.Payer; pharmacy = column_in records name.Pharmacy }
 
--- those of its figures
-pub record AreFigureColumns (records : List (List (List ℕ))) (c : FigureColumns) : Type 0 where
-  pub prescription : column_of records (codes "prescription") ≡ Some c.prescription.place
-  pub fill : column_of records (codes "fill") ≡ Some c.fill.place
-  pub cost : column_of records (codes "cost_cents") ≡ Some c.cost.place
-  pub fee : column_of records (codes "fee_cents") ≡ Some c.fee.place
-  pub copay : column_of records (codes "copay_cents") ≡ Some c.copay.place
-  pub cents : column_of records (codes "paid_cents") ≡ Some c.cents.place
+abbrev pub figure_columns_in : List (List (List ℕ)) → FigureColumns
+figure_columns_in records = record {
+  prescription = column_in records name.Prescription;
+  fill = column_in records name.Fill;
+  cost = column_in records name.CostCents;
+  fee = column_in records name.FeeCents;
+  copay = column_in records name.CopayCents;
+  cents = column_in records name.PaidCents;
+}
 
-pub record AreCountedColumns (records : List (List (List ℕ))) (c : CountedColumns) : Type 0 where
-  pub parties : AreParties records c.parties
-  pub auth : column_of records (codes "authorization") ≡ Some c.auth.place
-  pub figures : AreFigureColumns records c.figures
+abbrev pub counted_columns_in : List (List (List ℕ)) → CountedColumns
+counted_columns_in records = record { parties = parties_in records; auth = column_in records name.Authorization; figures = figure_columns_in records }
 
-pub record AreEntryColumns (records : List (List (List ℕ))) (c : EntryColumns) : Type 0 where
-  pub pharmacy : column_of records (codes "pharmacy") ≡ Some c.pharmacy.place
-  pub number : column_of records (codes "number") ≡ Some c.number.place
-  pub state : column_of records (codes "state") ≡ Some c.state.place
+abbrev pub entry_columns_in : List (List (List ℕ)) → EntryColumns
+entry_columns_in records = record { pharmacy = column_in records name.Pharmacy; number = column_in records name.Number; state = column_in records name.State }
 
-pub record AreMadeColumns (records : List (List (List ℕ))) (c : MadeColumns) : Type 0 where
-  pub parties : AreParties records c.parties
-  pub auth : column_of records (codes "authorization") ≡ Some c.auth.place
-  pub number : column_of records (codes "number") ≡ Some c.number.place
-  pub figures : AreFigureColumns records c.figures
-  pub reversed_by : column_of records (codes "reversed_by") ≡ Some c.reversed_by.place
+abbrev pub made_columns_in : List (List (List ℕ)) → MadeColumns
+made_columns_in records = record {
+  parties = parties_in records;
+  auth = column_in records name.Authorization;
+  number = column_in records name.Number;
+  figures = figure_columns_in records;
+  reversed_by = column_in records name.ReversedBy;
+}
 
--- a row is of the payer, and then of the pharmacy
+-- a row is of one of the books, and then of the pharmacy
 abbrev pub is_between : Parties → Between → List (List ℕ) → Option Bool
 is_between c b row = do
   payer ← number_in c.payer.place row
-  if payer == b.payer then option_map (λ (pharmacy : ℕ). pharmacy == b.pharmacy) (number_in c.pharmacy.place row) else Some false
+  if has b.books payer then option_map (λ (pharmacy : ℕ). pharmacy == b.pharmacy) (number_in c.pharmacy.place row) else Some false
 
 -- the figures of a row
 unfoldable pub figures_in : FigureColumns → List (List ℕ) → Option Figures
@@ -115,45 +114,17 @@ entry_in c pharmacy row = do
 
 -- the payments of a table that a pharmacy counts of a payer; its entries; the payments that the payer made it
 abbrev pub AreCounted : Between → List ℕ → List Counted → Type 0
-AreCounted b table counted = (records : List (List (List ℕ))) × (c : CountedColumns) × AreRecordsOf table records × AreCountedColumns records c × (given_by (counted_in c b) (rows_of records) ≡ Some counted)
+AreCounted b table counted = AreGiven counted_columns_in (λ (c : CountedColumns). counted_in c b) table counted
 
 abbrev pub AreEntries : ℕ → List ℕ → List Entry → Type 0
-AreEntries pharmacy table entries = (records : List (List (List ℕ))) × (c : EntryColumns) × AreRecordsOf table records × AreEntryColumns records c × (given_by (entry_in c pharmacy) (rows_of records) ≡ Some entries)
+AreEntries pharmacy table entries = AreGiven entry_columns_in (λ (c : EntryColumns). entry_in c pharmacy) table entries
 
 abbrev pub AreMade : Between → List ℕ → List Made → Type 0
-AreMade b table made = (records : List (List (List ℕ))) × (c : MadeColumns) × AreRecordsOf table records × AreMadeColumns records c × (given_by (made_in c b) (rows_of records) ≡ Some made)
+AreMade b table made = AreGiven made_columns_in (λ (c : MadeColumns). made_in c b) table made
 
 -- ---- what is wrong with them
 
--- the columns, of which the first that is not there is told
-abbrev pub parties_in : List (List (List ℕ)) → Parties
-parties_in records = record { payer = column_in records name.Payer; pharmacy = column_in records name.Pharmacy }
-
-abbrev pub figure_columns_in : List (List (List ℕ)) → FigureColumns
-figure_columns_in records = record {
-  prescription = column_in records name.Prescription;
-  fill = column_in records name.Fill;
-  cost = column_in records name.CostCents;
-  fee = column_in records name.FeeCents;
-  copay = column_in records name.CopayCents;
-  cents = column_in records name.PaidCents;
-}
-
-abbrev pub counted_columns_in : List (List (List ℕ)) → CountedColumns
-counted_columns_in records = record { parties = parties_in records; auth = column_in records name.Authorization; figures = figure_columns_in records }
-
-abbrev pub entry_columns_in : List (List (List ℕ)) → EntryColumns
-entry_columns_in records = record { pharmacy = column_in records name.Pharmacy; number = column_in records name.Number; state = column_in records name.State }
-
-abbrev pub made_columns_in : List (List (List ℕ)) → MadeColumns
-made_columns_in records = record {
-  parties = parties_in records;
-  auth = column_in records name.Authorization;
-  number = column_in records name.Number;
-  figures = figure_columns_in records;
-  reversed_by = column_in records name.ReversedBy;
-}
-
+-- the first column that is not there
 unfoldable pub parties_missing : ℕ → List (List (List ℕ)) → Option Cause
 parties_missing table records = option_or (missing table records name.Payer) (missing table records name.Pharmacy)
 
@@ -173,9 +144,9 @@ made_missing table records =
     option_or (parties_missing table records) (option_or (missing table records name.Authorization) (option_or (missing table records name.Number)
     (option_or (figures_missing table records) (missing table records name.ReversedBy))))
 
--- the first bad value of a row: of its payer; of a row of the payer that of its pharmacy; of a row of both the others
+-- the first bad value of a row: of its payer; of a row of the books that of its pharmacy; of a row of both the others
 unfoldable pub between_bad : Parties → Between → List (List ℕ) → Option (List ℕ)
-between_bad c b row = option_or (bad_number c.payer row) (bad_if (is_this (number_in c.payer.place row) b.payer) (bad_number c.pharmacy row))
+between_bad c b row = option_or (bad_number c.payer row) (bad_if (is_in b.books (number_in c.payer.place row)) (bad_number c.pharmacy row))
 
 unfoldable pub figures_bad : FigureColumns → List (List ℕ) → Option (List ℕ)
 figures_bad c row =

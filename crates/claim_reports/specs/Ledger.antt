@@ -79,10 +79,14 @@ pub record IsLedgerOf (moves : List Move) (l : Ledger) : Type 0 where
   pub once : PaidOnce moves
   pub standing : l.standing ≡ standing_total moves
 
--- what a payment comes to, where it stands
+-- what a payment comes to; what it comes to where it stands
 abbrev pub cents_unless : Bool → ℕ → Option ℕ
 cents_unless true cents = None
 cents_unless false cents = Some cents
+
+abbrev pub cents_in : Option Held → ℕ
+cents_in None = 0
+cents_in (Some held) = held.cents
 
 abbrev pub standing_in : Option Held → Option ℕ
 standing_in None = None

@@ -1,6 +1,7 @@
 pub mod Tables
 pub mod Names
 pub mod Causes
+pub mod Shelves
 pub mod Digits
 pub mod Totals
 pub mod Totalled
@@ -17,3 +18,6 @@ pub mod Rulings
 pub mod RulingsSeen
 pub mod Remitted
 pub mod NumbersSeen
+pub mod Daily
+pub mod BookLaws
+pub mod Reporting

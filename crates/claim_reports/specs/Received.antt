@@ -16,22 +16,22 @@ use Rattle.claim_reports.specs.Causes.{Cause, bad_if, bad_number, column_in, is_
 use Rattle.claim_reports.specs.Compared.{AreEntries, wanted, entries_cause}
 use Rattle.claim_reports.specs.Comparing.{entry_under, last_with}
 use Rattle.claim_reports.specs.Replies.{Reply}
-use Rattle.claim_reports.specs.Tables.{AreRecordsOf, rows_of, column_of, cell, number_in, given_by, ◌>>=◌}
+use Rattle.claim_reports.specs.Tables.{AreGiven, column_of, cell, number_in, ◌>>=◌}
 
 -- ---- what the tables say
 
 -- the columns of packets, and those of receipts
-pub record ArePacketColumns (records : List (List (List ℕ))) (c : PacketColumns) : Type 0 where
-  pub to : column_of records (codes "to") ≡ Some c.to.place
-  pub carries : column_of records (codes "carries") ≡ Some c.carries.place
-  pub pharmacy : column_of records (codes "pharmacy") ≡ Some c.pharmacy.place
-  pub number : column_of records (codes "number") ≡ Some c.number.place
-  pub bytes : column_of records (codes "bytes") ≡ Some c.bytes.place
+abbrev pub packet_columns_in : List (List (List ℕ)) → PacketColumns
+packet_columns_in records = record {
+  to = column_in records name.To;
+  carries = column_in records name.Carries;
+  pharmacy = column_in records name.Pharmacy;
+  number = column_in records name.Number;
+  bytes = column_in records name.Bytes;
+}
 
-pub record AreReceiptColumns (records : List (List (List ℕ))) (c : ReceiptColumns) : Type 0 where
-  pub pharmacy : column_of records (codes "pharmacy") ≡ Some c.pharmacy.place
-  pub number : column_of records (codes "number") ≡ Some c.number.place
-  pub answer : column_of records (codes "answer") ≡ Some c.answer.place
+abbrev pub receipt_columns_in : List (List (List ℕ)) → ReceiptColumns
+receipt_columns_in records = record { pharmacy = column_in records name.Pharmacy; number = column_in records name.Number; answer = column_in records name.Answer }
 
 -- the bytes that a column spells
 abbrev pub spelled_in : ℕ → List (List ℕ) → Option (List ℕ)
@@ -73,28 +73,14 @@ receipt_in c pharmacy row = do
 
 -- the answers that were sent to a pharmacy, by a table of packets; the receipts of its callers
 abbrev pub AreSent : ℕ → List ℕ → List Reply → Type 0
-AreSent pharmacy table sent =
-    (records : List (List (List ℕ))) × (c : PacketColumns) × AreRecordsOf table records × ArePacketColumns records c × (given_by (sent_in c (node_name pharmacy) pharmacy) (rows_of records) ≡ Some sent)
+AreSent pharmacy table sent = AreGiven packet_columns_in (λ (c : PacketColumns). sent_in c (node_name pharmacy) pharmacy) table sent
 
 abbrev pub AreReceipts : ℕ → List ℕ → List Reply → Type 0
-AreReceipts pharmacy table receipts =
-    (records : List (List (List ℕ))) × (c : ReceiptColumns) × AreRecordsOf table records × AreReceiptColumns records c × (given_by (receipt_in c pharmacy) (rows_of records) ≡ Some receipts)
+AreReceipts pharmacy table receipts = AreGiven receipt_columns_in (λ (c : ReceiptColumns). receipt_in c pharmacy) table receipts
 
 -- ---- what is wrong with them
 
--- the columns, of which the first that is not there is told
-abbrev pub packet_columns_in : List (List (List ℕ)) → PacketColumns
-packet_columns_in records = record {
-  to = column_in records name.To;
-  carries = column_in records name.Carries;
-  pharmacy = column_in records name.Pharmacy;
-  number = column_in records name.Number;
-  bytes = column_in records name.Bytes;
-}
-
-abbrev pub receipt_columns_in : List (List (List ℕ)) → ReceiptColumns
-receipt_columns_in records = record { pharmacy = column_in records name.Pharmacy; number = column_in records name.Number; answer = column_in records name.Answer }
-
+-- the first column that is not there
 unfoldable pub packets_missing : ℕ → List (List (List ℕ)) → Option Cause
 packets_missing table records =
     option_or (missing table records name.To) (option_or (missing table records name.Carries) (option_or (missing table records name.Pharmacy)

@@ -12,7 +12,7 @@ use Rattle.claim_reports.specs.declared.settling.Settled.{Settled}
 use Rattle.claim_reports.specs.Digits.{filled}
 use Rattle.claim_reports.specs.Ledger.{IsPeriod, back_cents, moves_cause, over, period_cause, taken_back}
 use Rattle.claim_reports.specs.Causes.{Cause, bad_at, bad_number, records_of, uneven}
-use Rattle.claim_reports.specs.Rulings.{Ruling, AreRulingColumns, AreRulings, moves_before, moves_behind, rulings_behind, Placed, placed_behind, placed_from, ruling_columns_in, ruling_columns_missing, rulings_at, rulings_bad}
+use Rattle.claim_reports.specs.Rulings.{Ruling, AreRulings, moves_before, moves_behind, rulings_behind, Placed, placed_behind, placed_from, ruling_columns_in, ruling_columns_missing, rulings_at, rulings_bad}
 use Rattle.claim_reports.specs.Tables.{AreRecordsOf, cell, number_in, ◌>>=◌, rows_of}
 
 -- ---- a row for each ruling of the period
@@ -93,7 +93,7 @@ pub record IsRemitted (table : List ℕ) (asked : Remittance) (text : List ℕ) 
   pub records : List (List (List ℕ))
   pub are : AreRecordsOf table records
   pub columns : RulingColumns
-  pub have : AreRulingColumns records columns
+  pub have : columns ≡ ruling_columns_in records
   pub rulings : List Ruling
   pub up_to : ℕ
   pub read : AreRulings asked records columns rulings up_to
@@ -128,7 +128,7 @@ pub record IsSummed (table : List ℕ) (asked : Remittance) (text : List ℕ) : 
   pub records : List (List (List ℕ))
   pub are : AreRecordsOf table records
   pub columns : RulingColumns
-  pub have : AreRulingColumns records columns
+  pub have : columns ≡ ruling_columns_in records
   pub rulings : List Ruling
   pub up_to : ℕ
   pub read : AreRulings asked records columns rulings up_to

@@ -11,16 +11,18 @@ use Rattle.claim_reports.specs.Causes.{Cause, bad_at, bad_if, bad_number, column
 use Rattle.claim_reports.specs.Tables.{rows_of, column_of, cell, number_in, given, given_by, ◌>>=◌}
 
 -- the columns of a table of rows
-pub record AreRulingColumns (records : List (List (List ℕ))) (c : RulingColumns) : Type 0 where
-  pub payer : column_of records (codes "payer") ≡ Some c.payer.place
-  pub pharmacy : column_of records (codes "pharmacy") ≡ Some c.pharmacy.place
-  pub number : column_of records (codes "number") ≡ Some c.number.place
-  pub transaction : column_of records (codes "transaction") ≡ Some c.transaction.place
-  pub ruling : column_of records (codes "ruling") ≡ Some c.ruling.place
-  pub auth : column_of records (codes "authorization") ≡ Some c.auth.place
-  pub prescription : column_of records (codes "prescription") ≡ Some c.prescription.place
-  pub day : column_of records (codes "date_of_service") ≡ Some c.day.place
-  pub cents : column_of records (codes "paid_cents") ≡ Some c.cents.place
+abbrev pub ruling_columns_in : List (List (List ℕ)) → RulingColumns
+ruling_columns_in records = record {
+  payer = column_in records name.Payer;
+  pharmacy = column_in records name.Pharmacy;
+  number = column_in records name.Number;
+  transaction = column_in records name.Transaction;
+  ruling = column_in records name.Ruling;
+  auth = column_in records name.Authorization;
+  prescription = column_in records name.Prescription;
+  day = column_in records name.DateOfService;
+  cents = column_in records name.PaidCents;
+}
 
 -- a ruling that moves money: its number among those of the payer, its row, and what it moves
 pub record Ruling : Type 0 where
@@ -113,20 +115,7 @@ read_rows c asked r (row ∷ more) = do
 
 -- ---- what is wrong with them
 
--- the columns, of which the first that is not there is told
-abbrev pub ruling_columns_in : List (List (List ℕ)) → RulingColumns
-ruling_columns_in records = record {
-  payer = column_in records name.Payer;
-  pharmacy = column_in records name.Pharmacy;
-  number = column_in records name.Number;
-  transaction = column_in records name.Transaction;
-  ruling = column_in records name.Ruling;
-  auth = column_in records name.Authorization;
-  prescription = column_in records name.Prescription;
-  day = column_in records name.DateOfService;
-  cents = column_in records name.PaidCents;
-}
-
+-- the first column that is not there
 unfoldable pub ruling_columns_missing : ℕ → List (List (List ℕ)) → Option Cause
 ruling_columns_missing table records =
     option_or (missing table records name.Payer) (option_or (missing table records name.Pharmacy) (option_or (missing table records name.Number)

@@ -1,5 +1,5 @@
 -- Tables of CSV: records, the first of which names the columns, and what a row has under a column.
-use Rattle.std.specs.Prelude.{ℕ, ◌++◌, ◌==◌, Bool, true, false, if◌then◌else◌, List, [], ◌∷◌, get_or, length, Option, Some, None, option_map, option_and_then, bytes_eq}
+use Rattle.std.specs.Prelude.{◌≡◌, ℕ, ◌++◌, ◌==◌, Bool, true, false, if◌then◌else◌, List, [], ◌∷◌, get_or, length, Option, Some, None, option_map, option_and_then, bytes_eq}
 use Rattle.std.specs.List.{position_from}
 use Rattle.csv.specs.Reading.{AreRecords, default_config, strip_bom}
 use Rattle.csv.specs.declared.parser.State.TheVariants as state
@@ -56,3 +56,7 @@ given_by read (row ∷ rows) = do
   one ← read row
   others ← given_by read rows
   Some (given one ++ others)
+
+-- what the rows of a table give that is read by its columns
+abbrev pub AreGiven : {C A : Type 0} → (List (List (List ℕ)) → C) → (C → List (List ℕ) → Option (Option A)) → List ℕ → List A → Type 0
+AreGiven {C} columns read table rows = (records : List (List (List ℕ))) × (c : C) × AreRecordsOf table records × (c ≡ columns records) × (given_by (read c) (rows_of records) ≡ Some rows)

@@ -1,5 +1,5 @@
 -- Totals of a table of payments, as a table.
-use Rattle.std.specs.Prelude.{◌≡◌, ℕ, List, [], ◌∷◌, ◌++◌, Option, Some, option_map, filter, codes, unwrap_or}
+use Rattle.std.specs.Prelude.{◌≡◌, ℕ, List, [], ◌∷◌, ◌++◌, Bool, true, false, if◌then◌else◌, Option, Some, option_map, filter, codes, unwrap_or}
 use Rattle.std.specs.Option.{option_or}
 use Rattle.std.specs.List.{flat_map}
 use Rattle.std.specs.BTreeMap.{BTreeMap, IsOrdered, get}
@@ -8,7 +8,7 @@ use Rattle.table_text.specs.Rows.{head_text, csv_row}
 use Rattle.claim_reports.specs.declared.choice.Paid.{Paid}
 use Rattle.claim_reports.specs.declared.choice.Choice.{Choice}
 use Rattle.claim_reports.specs.declared.totals.By.{By}
-use Rattle.claim_reports.specs.declared.totals.By.TheVariants.{Payer, Pharmacy, Day}
+use Rattle.claim_reports.specs.declared.totals.By.TheVariants.{Payer, Pharmacy, Day, All}
 use Rattle.claim_reports.specs.declared.totals.Sums.{Sums}
 use Rattle.claim_reports.specs.declared.totalling.Columns.{Columns}
 use Rattle.claim_reports.specs.declared.totalling.Days.{Days}
@@ -29,19 +29,29 @@ day_column Ruling = name.RuledOn
 abbrev pub day_name : Days → List ℕ
 day_name days = name_text (day_column days)
 
--- the name of the column that totals are made by
+-- the name of the column that totals are made by; all together have none
 abbrev pub by_name : By → Days → List ℕ
 by_name Payer days = codes "payer"
 by_name Pharmacy days = codes "pharmacy"
 by_name Day days = day_name days
+by_name All days = []
 
--- these are the columns of a table of payments
-pub record AreColumns (days : Days) (records : List (List (List ℕ))) (c : Columns) : Type 0 where
-  pub payer : column_of records (codes "payer") ≡ Some c.payer.place
-  pub pharmacy : column_of records (codes "pharmacy") ≡ Some c.pharmacy.place
-  pub day : column_of records (day_name days) ≡ Some c.day.place
-  pub cents : column_of records (codes "paid_cents") ≡ Some c.cents.place
-  pub state : column_of records (codes "state") ≡ Some c.state.place
+-- all payments are in one row
+abbrev pub is_all : By → Bool
+is_all Payer = false
+is_all Pharmacy = false
+is_all Day = false
+is_all All = true
+
+-- the columns of a table of payments
+abbrev pub columns_in : Days → List (List (List ℕ)) → Columns
+columns_in days records = record {
+  payer = column_in records name.Payer;
+  pharmacy = column_in records name.Pharmacy;
+  day = column_in records (day_column days);
+  cents = column_in records name.PaidCents;
+  state = column_in records name.State;
+}
 
 -- the day of a row: that of service it has; that of ruling may not be known
 abbrev pub day_in : Days → ℕ → List (List ℕ) → Option (Option ℕ)
@@ -60,20 +70,11 @@ paid_in days c row = do
 
 -- the payments of a table: one of each row
 abbrev pub ArePaid : Days → List (List (List ℕ)) → List Paid → Type 0
-ArePaid days records paid = (c : Columns) × AreColumns days records c × (given_by (λ row. option_map Some (paid_in days c row)) (rows_of records) ≡ Some paid)
+ArePaid days records paid = (c : Columns) × (c ≡ columns_in days records) × (given_by (λ row. option_map Some (paid_in days c row)) (rows_of records) ≡ Some paid)
 
 -- ---- what is wrong with them
 
--- the columns, of which the first that is not there is told
-abbrev pub columns_in : Days → List (List (List ℕ)) → Columns
-columns_in days records = record {
-  payer = column_in records name.Payer;
-  pharmacy = column_in records name.Pharmacy;
-  day = column_in records (day_column days);
-  cents = column_in records name.PaidCents;
-  state = column_in records name.State;
-}
-
+-- the first column that is not there
 abbrev pub columns_missing : ℕ → Days → List (List (List ℕ)) → Option Cause
 columns_missing table days records =
     option_or (missing table records name.Payer) (option_or (missing table records name.Pharmacy) (option_or (missing table records (day_column days))
@@ -105,13 +106,27 @@ totals_cause table by days choice =
 
 -- ---- what is told of them
 
--- the names of the columns of totals
-abbrev pub total_names : List ℕ → List (List ℕ)
-total_names name = name ∷ codes "payments" ∷ codes "cents" ∷ codes "reversed_payments" ∷ codes "reversed_cents" ∷ []
+-- the names of the columns of sums, and of totals, which have a number before them, but for those of all together
+abbrev pub all_names : List (List ℕ)
+all_names = codes "payments" ∷ codes "cents" ∷ codes "reversed_payments" ∷ codes "reversed_cents" ∷ []
 
--- the row of the sums of a number
-unfoldable pub total_row : List ℕ → Option ℕ → Sums → Row
-total_row name number sums =
+abbrev pub keyed_names : List ℕ → List (List ℕ)
+keyed_names name = name ∷ all_names
+
+abbrev pub total_names : By → Days → List (List ℕ)
+total_names by days = if is_all by then all_names else keyed_names (by_name by days)
+
+-- the row of the sums of all together, and of those of a number
+unfoldable pub all_row : Sums → Row
+all_row sums =
+    record { name = codes "payments"; value = Number sums.count }
+    ∷ record { name = codes "cents"; value = Number sums.cents }
+    ∷ record { name = codes "reversed_payments"; value = Number sums.reversed_count }
+    ∷ record { name = codes "reversed_cents"; value = Number sums.reversed_cents }
+    ∷ []
+
+unfoldable pub keyed_row : List ℕ → Option ℕ → Sums → Row
+keyed_row name number sums =
     record { name = name; value = number_or_nothing number }
     ∷ record { name = codes "payments"; value = Number sums.count }
     ∷ record { name = codes "cents"; value = Number sums.cents }
@@ -119,12 +134,15 @@ total_row name number sums =
     ∷ record { name = codes "reversed_cents"; value = Number sums.reversed_cents }
     ∷ []
 
--- a row for each number, in their order
-abbrev pub total_rows : List ℕ → List (Option ℕ × Sums) → List ℕ
-total_rows name totals = flat_map (λ (t : Option ℕ × Sums). csv_row (total_row name t.0 t.1)) totals
+abbrev pub total_row : By → Days → Option ℕ → Sums → Row
+total_row by days number sums = if is_all by then all_row sums else keyed_row (by_name by days) number sums
 
-abbrev pub totals_text : List ℕ → List (Option ℕ × Sums) → List ℕ
-totals_text name totals = head_text (total_names name) ++ total_rows name totals
+-- a row for each number, in their order
+abbrev pub total_rows : By → Days → List (Option ℕ × Sums) → List ℕ
+total_rows by days totals = flat_map (λ (t : Option ℕ × Sums). csv_row (total_row by days t.0 t.1)) totals
+
+abbrev pub totals_text : By → Days → List (Option ℕ × Sums) → List ℕ
+totals_text by days totals = head_text (total_names by days) ++ total_rows by days totals
 
 -- a text is the totals of those payments of a table that are chosen: each number that these have has the sums of those that have it
 pub record IsTotalled (table : List ℕ) (by : By) (days : Days) (choice : Choice) (text : List ℕ) : Type 0 where
@@ -135,4 +153,4 @@ pub record IsTotalled (table : List ℕ) (by : By) (days : Days) (choice : Choic
   pub totals : BTreeMap (Option ℕ) Sums
   pub ordered : IsOrdered key_cmp totals
   pub each : (key : Option ℕ) → get key_cmp totals key ≡ total_at by key (filter (is_chosen choice) paid)
-  pub told : text ≡ totals_text (by_name by days) totals.entries
+  pub told : text ≡ totals_text by days totals.entries

@@ -9,8 +9,9 @@ use Rattle.std.specs.BTreeMap.{BTreeMap, IsOrdered, Updates, get, insert_entry}
 use Rattle.claim_reports.specs.declared.choice.Paid.{Paid}
 use Rattle.claim_reports.specs.declared.choice.Choice.{Choice}
 use Rattle.claim_reports.specs.declared.totals.By.{By}
-use Rattle.claim_reports.specs.declared.totals.By.TheVariants.{Payer, Pharmacy, Day}
+use Rattle.claim_reports.specs.declared.totals.By.TheVariants.{Payer, Pharmacy, Day, All}
 use Rattle.claim_reports.specs.declared.totals.Sums.{Sums}
+use Rattle.claim_reports.specs.Shelves.{is_of}
 use Rattle.claim_reports.specs.Causes.{Cause, TooLarge}
 
 -- a number is the one that is wanted, where one is
@@ -30,15 +31,16 @@ is_to None day = true
 is_to (Some last) None = false
 is_to (Some last) (Some day) = nat_le day last
 
--- a payment is of the payer and of the pharmacy that are wanted, and its day is from the first to the last one
+-- a payment is of a book and of the pharmacy that are wanted, and its day is from the first to the last one
 abbrev pub is_chosen : Choice → Paid → Bool
-is_chosen c p = is_number c.payer p.payer && (is_number c.pharmacy p.pharmacy && (is_from c.from p.day && is_to c.to p.day))
+is_chosen c p = is_of c.books p.payer && (is_number c.pharmacy p.pharmacy && (is_from c.from p.day && is_to c.to p.day))
 
--- the number of a payment that totals are made by, where it has one
+-- the number of a payment that totals are made by, where it has one; of all in one row none has
 abbrev pub key_of : By → Paid → Option ℕ
 key_of Payer p = Some p.payer
 key_of Pharmacy p = Some p.pharmacy
 key_of Day p = p.day
+key_of All p = None
 
 -- what has no number first, the others in its order
 abbrev pub key_cmp : Option ℕ → Option ℕ → Ordering

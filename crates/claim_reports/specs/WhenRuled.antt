@@ -11,25 +11,25 @@ use Rattle.claim_reports.specs.declared.naming.Name.TheVariants as name
 use Rattle.claim_reports.specs.Causes.{Cause, bad_if, bad_number, bad_optional, bad_rows, column_in, missing, present, records_of, table_cause, uneven}
 use Rattle.claim_reports.specs.Digits.{ShowsTime}
 use Rattle.claim_reports.specs.Ruled.{ruled_at}
-use Rattle.claim_reports.specs.Tables.{AreRecordsOf, rows_of, column_of, cell, number_in, optional_in, given_by, ◌>>=◌}
+use Rattle.claim_reports.specs.Tables.{AreGiven, AreRecordsOf, rows_of, column_of, cell, number_in, optional_in, given_by, ◌>>=◌}
 use Rattle.claim_reports.specs.Wider.{wider_text}
 
 -- ---- what the two tables say
 
 -- the columns that name a request, those of a table of rows, and those of a table of calls
-pub record AreNamed (records : List (List (List ℕ))) (c : Named) : Type 0 where
-  pub pharmacy : column_of records (codes "pharmacy") ≡ Some c.pharmacy.place
-  pub number : column_of records (codes "number") ≡ Some c.number.place
+abbrev pub named_in : List (List (List ℕ)) → Named
+named_in records = record { pharmacy = column_in records name.Pharmacy; number = column_in records name.Number }
 
-pub record AreRowColumns (records : List (List (List ℕ))) (c : RowColumns) : Type 0 where
-  pub payer : column_of records (codes "payer") ≡ Some c.payer.place
-  pub named : AreNamed records c.named
+abbrev pub row_columns_in : List (List (List ℕ)) → RowColumns
+row_columns_in records = record { payer = column_in records name.Payer; named = named_in records }
 
-pub record AreCallColumns (records : List (List (List ℕ))) (c : CallColumns) : Type 0 where
-  pub node : column_of records (codes "node") ≡ Some c.node.place
-  pub time : column_of records (codes "time") ≡ Some c.time.place
-  pub carries : column_of records (codes "carries") ≡ Some c.carries.place
-  pub named : AreNamed records c.named
+abbrev pub call_columns_in : List (List (List ℕ)) → CallColumns
+call_columns_in records = record {
+  node = column_in records name.Node;
+  time = column_in records name.Time;
+  carries = column_in records name.Carries;
+  named = named_in records;
+}
 
 -- the request to a payer that a row names
 abbrev pub request_to : Named → ℕ → List (List ℕ) → Option Request
@@ -61,28 +61,14 @@ taken_in c row = if bytes_eq (cell c.carries.place row) (codes "request") then t
 
 -- the requests of the rows of a table, one of each; and the requests that payers took, by a table of calls
 abbrev pub AreRequests : List (List (List ℕ)) → List Request → Type 0
-AreRequests records requests = (c : RowColumns) × AreRowColumns records c × (given_by (λ row. option_map Some (request_in c row)) (rows_of records) ≡ Some requests)
+AreRequests records requests = (c : RowColumns) × (c ≡ row_columns_in records) × (given_by (λ row. option_map Some (request_in c row)) (rows_of records) ≡ Some requests)
 
 abbrev pub AreTaken : List ℕ → List Taken → Type 0
-AreTaken table taken = (records : List (List (List ℕ))) × (c : CallColumns) × AreRecordsOf table records × AreCallColumns records c × (given_by (taken_in c) (rows_of records) ≡ Some taken)
+AreTaken table taken = AreGiven call_columns_in taken_in table taken
 
 -- ---- what is wrong with them
 
--- the columns, of which the first that is not there is told
-abbrev pub named_in : List (List (List ℕ)) → Named
-named_in records = record { pharmacy = column_in records name.Pharmacy; number = column_in records name.Number }
-
-abbrev pub row_columns_in : List (List (List ℕ)) → RowColumns
-row_columns_in records = record { payer = column_in records name.Payer; named = named_in records }
-
-abbrev pub call_columns_in : List (List (List ℕ)) → CallColumns
-call_columns_in records = record {
-  node = column_in records name.Node;
-  time = column_in records name.Time;
-  carries = column_in records name.Carries;
-  named = named_in records;
-}
-
+-- the first column that is not there
 unfoldable pub named_missing : ℕ → List (List (List ℕ)) → Option Cause
 named_missing table records = option_or (missing table records name.Pharmacy) (missing table records name.Number)
 

@@ -2,8 +2,10 @@
 
 ghost use Rattle.std.specs.Prelude.{◌≡◌, filter, IfErr, IfOk};
 ghost use Rattle.claim_reports.specs.declared.fault.ReportFault.TheVariants.{OutOfMemory};
+ghost use Rattle.claim_reports.specs.Shelves.{is_of};
 ghost use Rattle.claim_reports.specs.Totals.{is_number, is_from, is_to, is_chosen};
 
+use crate::books::Books;
 use crate::fault::ReportFault;
 use std::alloc::Global;
 
@@ -26,8 +28,8 @@ pub struct Paid {
 /// Which payments a report is about.
 #[derive(Clone, Copy)]
 pub struct Choice {
-    /// Those of this payer; of all where it is none.
-    pub payer: Option<u64>,
+    /// Those of these books of a payer; of all where it is none.
+    pub books: Option<Books>,
     /// Those that this pharmacy asked for; or any.
     pub pharmacy: Option<u64>,
     /// Those of this day, CCYYMMDD, or a later one; or any.
@@ -59,10 +61,20 @@ impl Choice {
     fn has(&self, payment: &Paid) -> bool
         ensures { result ≡ is_chosen self.now payment.now }
     {
-        is_number(self.payer, payment.payer)
+        is_of(self.books, payment.payer)
             && is_number(self.pharmacy, payment.pharmacy)
             && is_from(self.from, payment.day)
             && is_to(self.to, payment.day)
+    }
+}
+
+/// Whether a number is that of a book that is wanted, where some are.
+fn is_of(books: Option<Books>, number: u64) -> bool
+    ensures { result ≡ is_of books number }
+{
+    match books {
+        Some(books) => books.has(number),
+        None => true,
     }
 }
 
@@ -77,7 +89,7 @@ fn is_number(wanted: Option<u64>, number: u64) -> bool
 }
 
 /// Whether a day is the first that is wanted or a later one, where one is wanted.
-fn is_from(first: Option<u64>, day: Option<u64>) -> bool
+pub(crate) fn is_from(first: Option<u64>, day: Option<u64>) -> bool
     ensures { result ≡ is_from first day }
 {
     let Some(first) = first else {
@@ -90,7 +102,7 @@ fn is_from(first: Option<u64>, day: Option<u64>) -> bool
 }
 
 /// Whether a day is the last that is wanted or an earlier one, where one is wanted.
-fn is_to(last: Option<u64>, day: Option<u64>) -> bool
+pub(crate) fn is_to(last: Option<u64>, day: Option<u64>) -> bool
     ensures { result ≡ is_to last day }
 {
     let Some(last) = last else {

@@ -12,18 +12,11 @@ ghost use Rattle.claim_reports.specs.Showing.{apart_seen, shown_seen};
 use crate::beside::{Figures, Finding, compare};
 use crate::fault::ReportFault;
 use crate::numbers::auth_text;
-use crate::sides::{Between, counted_in, entries_in, made_in};
+use crate::reading::rows_in;
+use crate::sides::{Between, CountedColumns, EntryColumns, MadeColumns};
+use crate::told::Told;
 use std::alloc::{AllocError, Global};
 use table_text::{Field, Style, put_head, put_row};
-
-/// What differs, as CSV, and whether all of it may still be on its way.
-#[derive(Drop)]
-pub struct Comparison {
-    /// The table.
-    pub text: Vec<u8>,
-    /// Whether nothing differs but what may still be on its way.
-    pub agrees: bool,
-}
 
 /// A figure that is another on both sides.
 #[derive(Clone, Copy)]
@@ -44,7 +37,8 @@ struct Shown {
     apart: Option<Apart>,
 }
 
-/// Compares the pharmacy's tables `counted` and `entries` with the payer's table `payments`: the fill and each amount.
+/// Compares the pharmacy's tables `counted` and `entries` with the payer's table `payments`: the fill and each amount. It is good
+/// where nothing differs but what may still be on its way.
 ///
 /// # Errors
 /// A table that is none, or has a value of another kind; want of memory.
@@ -54,15 +48,15 @@ pub fn compare_tables(
     entries: &[u8],
     payments: &[u8],
     between: Between,
-) -> Result<Comparison, ReportFault>
+) -> Result<Told, ReportFault>
     // What is written is, row by row, what is found of the rows that a reader of CSV finds in the tables.
-    ensures made { IfOk result (λ told. IsCompared counted.now entries.now payments.now between told.text.items told.agrees) }
+    ensures made { IfOk result (λ told. IsCompared counted.now entries.now payments.now between told.text.items told.good) }
     // It is refused for the first fault of the tables or for want of memory, and for nothing else.
     ensures refuses { RefusesFor result (compared_cause counted.now entries.now payments.now between) }
 {
-    let counted = counted_in(alloc, counted, between)?;
-    let entries = entries_in(alloc, entries, between.pharmacy)?;
-    let made = made_in(alloc, payments, between)?;
+    let counted = rows_in::<CountedColumns>(alloc, 1, counted, &between)?;
+    let entries = rows_in::<EntryColumns>(alloc, 2, entries, &between.pharmacy)?;
+    let made = rows_in::<MadeColumns>(alloc, 3, payments, &between)?;
     let found = compare(
         alloc,
         counted.as_slice(),
@@ -73,7 +67,7 @@ pub fn compare_tables(
     put_names(&mut text)?;
     put_findings(alloc, &mut text, found.as_slice())?;
     let agrees = are_on_their_way(found.as_slice());
-    Ok(Comparison { text, agrees })
+    Ok(Told { text, good: agrees })
 }
 
 /// Appends the row of each finding.

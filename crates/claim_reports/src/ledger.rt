@@ -1,12 +1,12 @@
 //! The ledger of a payer and a pharmacy: what was paid, what was reversed, and what stands.
 
-ghost use Rattle.std.specs.Prelude.{◌≡◌, ◌<◌, ◌+◌, ◌^◌, [], List, length, IfOk};
+ghost use Rattle.std.specs.Prelude.{◌≡◌, ◌<◌, ◌+◌, ◌++◌, ◌^◌, [], List, length, IfOk};
 ghost use Rattle.std.specs.Ordering.{nat_cmp};
 ghost use Rattle.std.specs.BTreeMap.{get};
 ghost use Rattle.claim_reports.specs.declared.ledger.Move.{Move};
 ghost use Rattle.claim_reports.specs.declared.ledger.Move.TheVariants.{Paid as PaidSeen, Reversed as ReversedSeen};
 ghost use Rattle.claim_reports.specs.Causes.{RefusesFor};
-ghost use Rattle.claim_reports.specs.Ledger.{moves_cause, period_cause, taking_cause, IsLedgerOf, Pays, Reverses, Takes, TakesAll, IsPeriod, standing_in};
+ghost use Rattle.claim_reports.specs.Ledger.{moves_cause, period_cause, taking_cause, IsLedgerOf, Pays, Reverses, Takes, TakesAll, IsPeriod, back_cents, cents_in, standing_in};
 
 use crate::fault::ReportFault;
 use std::alloc::Global;
@@ -76,6 +76,21 @@ pub fn period_of(alloc: Global, before: &[Move], moves: &[Move]) -> Result<Perio
     let moved = ledger.take_all(before.len() as u64, moves)?;
     let end = ledger.standing();
     Ok(Period { begin, moved, end })
+}
+
+/// The ledger of these rulings after those before them.
+pub(crate) fn ledger_of(
+    alloc: Global,
+    before: &[Move],
+    moves: &[Move],
+) -> Result<Ledger, ReportFault>
+    ensures is { IfOk result (λ ledger. IsLedgerOf (before.now ++ moves.now) ledger) }
+    ensures refuses { RefusesFor result (period_cause before.now moves.now) }
+{
+    let mut ledger = Ledger::new(alloc);
+    ledger.take_all(0, before)?;
+    ledger.take_all(before.len() as u64, moves)?;
+    Ok(ledger)
 }
 
 impl Ledger {
@@ -179,6 +194,26 @@ impl Ledger {
             paid: 0,
             reversed: cents,
         })
+    }
+
+    /// What a ruling takes back: of a reversal what was paid under its authorization.
+    pub(crate) fn back_cents(&self, ruling: Move) -> u64
+        ensures { (all : List Move) → IsLedgerOf all self.now → result ≡ back_cents all ruling }
+    {
+        match ruling {
+            Move::Paid(_, _) => 0,
+            Move::Reversed(auth) => self.cents_at(auth),
+        }
+    }
+
+    /// What was paid under an authorization; nothing where nothing was.
+    fn cents_at(&self, auth: u64) -> u64
+        ensures { result ≡ cents_in (get nat_cmp self.now.payments auth) }
+    {
+        match self.payments.get(&auth) {
+            Some(held) => held.cents,
+            None => 0,
+        }
     }
 
     /// What the payment of an authorization comes to, where it stands.

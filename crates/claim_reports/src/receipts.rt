@@ -10,16 +10,17 @@ ghost use Rattle.claim_reports.specs.Causes.{RefusesFor};
 ghost use Rattle.claim_reports.specs.Received.{received_cause, sent_under, is_answer, receipt_finding, finding_row, row_if, receipt_rows, is_nothing_found, IsReceived};
 
 use crate::beside::{Entry, entries_by_number};
-use crate::comparing::Comparison;
 use crate::fault::ReportFault;
-use crate::replies::{Reply, receipts_in, sent_in};
-use crate::sides::entries_in;
+use crate::reading::rows_in;
+use crate::replies::{Addressee, PacketColumns, ReceiptColumns, Reply};
+use crate::sides::EntryColumns;
+use crate::told::Told;
 use std::alloc::{AllocError, Global};
 use std::collections::BTreeMap;
 use table_text::{Field, Style, put_head, put_row};
 
 /// Each number and each answer that a pharmacy's callers were told and that the run does not have, as CSV: a table of receipts
-/// beside the tables `entries` and `packets` of the run.
+/// beside the tables `entries` and `packets` of the run. It is good where nothing is found.
 ///
 /// # Errors
 /// A table that is none, or has a value of another kind; want of memory.
@@ -29,23 +30,24 @@ pub fn receipts_beside(
     entries: &[u8],
     packets: &[u8],
     pharmacy: u64,
-) -> Result<Comparison, ReportFault>
+) -> Result<Told, ReportFault>
     // What is written is, row by row, what is found of the receipts that a reader of CSV finds in the table beside the run's.
     ensures made { IfOk result (λ told.
-        IsReceived receipts.now entries.now packets.now pharmacy told.text.items told.agrees) }
+        IsReceived receipts.now entries.now packets.now pharmacy told.text.items told.good) }
     // It is refused for the first fault of the tables or for want of memory, and for nothing else.
     ensures refuses { RefusesFor result (received_cause receipts.now entries.now packets.now pharmacy) }
 {
-    let entries = entries_in(alloc, entries, pharmacy)?;
-    let sent = sent_in(alloc, packets, pharmacy)?;
-    let told = receipts_in(alloc, receipts, pharmacy)?;
+    let to = Addressee::new(alloc, pharmacy)?;
+    let entries = rows_in::<EntryColumns>(alloc, 2, entries, &pharmacy)?;
+    let sent = rows_in::<PacketColumns>(alloc, 3, packets, &to)?;
+    let told = rows_in::<ReceiptColumns>(alloc, 1, receipts, &pharmacy)?;
     let held = entries_by_number(alloc, entries.as_slice())?;
     let came = sent_by_number(alloc, sent)?;
     let mut text = Vec::new(alloc);
     put_head(&mut text, &[b"finding", b"number"])?;
     put_findings(&mut text, &held, &came, told.as_slice())?;
     let agrees = is_nothing_found(&held, &came, told.as_slice());
-    Ok(Comparison { text, agrees })
+    Ok(Told { text, good: agrees })
 }
 
 /// Answers by the numbers of their entries.

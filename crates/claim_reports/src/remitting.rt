@@ -192,7 +192,7 @@ fn put_fields(
 }
 
 /// The word for a ruling that moves money.
-fn kind_of(moves: Move) -> &'static [u8]
+pub(crate) fn kind_of(moves: Move) -> &'static [u8]
     ensures { result.now ≡ kind_of moves }
 {
     match moves {
@@ -202,7 +202,7 @@ fn kind_of(moves: Move) -> &'static [u8]
 }
 
 /// Its authorization.
-fn auth_of(moves: Move) -> u64
+pub(crate) fn auth_of(moves: Move) -> u64
     ensures { result ≡ auth_of moves }
 {
     match moves {
@@ -212,7 +212,7 @@ fn auth_of(moves: Move) -> u64
 }
 
 /// The cents that a ruling moved; those that were taken back are given.
-fn cents_field<'a>(moves: Move, back: &'a [u8]) -> Field<'a>
+pub(crate) fn cents_field<'a>(moves: Move, back: &'a [u8]) -> Field<'a>
     ensures { field_seen result ≡ record { name = codes "cents"; value = cents_of back.now moves } }
 {
     match moves {

@@ -4,10 +4,11 @@ ghost use Rattle.std.specs.Prelude.{◌≡◌, ◌++◌, drop, map, Some, IfOk, 
 ghost use Rattle.csv.specs.Records.{fields_of};
 ghost use Rattle.claim_reports.specs.Tables.{given};
 ghost use Rattle.claim_reports.specs.Causes.{RefusesFor, bad_at, records_of};
-ghost use Rattle.claim_reports.specs.Received.{packet_columns_in, receipt_columns_in, packets_missing, receipts_missing, bad_spelling, answer_bad, sent_bad, told_bad, receipt_bad, packets_cause, receipts_cause, ArePacketColumns, AreReceiptColumns, spelled_in, node_name, answer_of, is_answer_to, sent_in, receipt_of, receipt_in, AreSent, AreReceipts};
+ghost use Rattle.claim_reports.specs.Received.{packet_columns_in, receipt_columns_in, packets_missing, receipts_missing, bad_spelling, answer_bad, sent_bad, told_bad, receipt_bad, packets_cause, receipts_cause, spelled_in, node_name, answer_of, is_answer_to, sent_in, receipt_of, receipt_in, AreSent, AreReceipts};
 
 use crate::fault::ReportFault;
 use crate::naming::Name;
+use crate::reading::Columns;
 use crate::table::{Column, Table, TableRow};
 use input_text::{PrintedFault, put_decimal, unprint};
 use std::alloc::{AllocError, Global};
@@ -33,7 +34,7 @@ impl Model for Reply {
 
 /// The columns of a table of packets.
 #[derive(Clone, Copy)]
-struct PacketColumns {
+pub(crate) struct PacketColumns {
     to: Column,
     carries: Column,
     pharmacy: Column,
@@ -43,10 +44,35 @@ struct PacketColumns {
 
 /// The columns of a table of receipts.
 #[derive(Clone, Copy)]
-struct ReceiptColumns {
+pub(crate) struct ReceiptColumns {
     pharmacy: Column,
     number: Column,
     answer: Column,
+}
+
+/// A pharmacy, and the name of its node.
+#[derive(Drop)]
+pub(crate) struct Addressee {
+    node: Vec<u8>,
+    pharmacy: u64,
+}
+
+impl Model for Addressee {
+    ghost use Rattle.claim_reports.specs.Replies.{Addressee as Seen};
+
+    ghost Value = { Seen };
+
+    ghost view = { λ to. record { node = to.node.items; pharmacy = to.pharmacy } };
+}
+
+impl Addressee {
+    /// The pharmacy of a number.
+    pub(crate) fn new(alloc: Global, pharmacy: u64) -> Result<Addressee, AllocError>
+        ensures { IfOk result (λ to. to ≡ record { node = node_name pharmacy; pharmacy = pharmacy }) }
+    {
+        let node = node_name(alloc, pharmacy)?;
+        Ok(Addressee { node, pharmacy })
+    }
 }
 
 impl Reply {
@@ -69,55 +95,6 @@ impl Reply {
         ensures { result.now ≡ self.now.bytes }
     {
         self.bytes.as_slice()
-    }
-}
-
-/// The answers that were sent to a pharmacy, by the third table.
-pub(crate) fn sent_in(alloc: Global, text: &[u8], pharmacy: u64) -> Result<Vec<Reply>, ReportFault>
-    ensures read { IfOk result (λ sent. AreSent pharmacy text.now sent.items) }
-    ensures refuses { RefusesFor result (packets_cause pharmacy (records_of text.now)) }
-{
-    let table = Table::read(alloc, 3, text)?;
-    let columns = PacketColumns::of(&table)?;
-    let node = node_name(alloc, pharmacy)?;
-    let mut sent = Vec::new(alloc);
-    for (place, record) in table.rows().iter().enumerate() {
-        let row = table.row(place, record);
-        let reply = columns.sent(alloc, &row, node.as_slice(), pharmacy)?;
-        add(&mut sent, reply)?;
-    }
-    Ok(sent)
-}
-
-/// What the callers of a pharmacy were told, by the first table.
-pub(crate) fn receipts_in(
-    alloc: Global,
-    text: &[u8],
-    pharmacy: u64,
-) -> Result<Vec<Reply>, ReportFault>
-    ensures read { IfOk result (λ receipts. AreReceipts pharmacy text.now receipts.items) }
-    ensures refuses { RefusesFor result (receipts_cause pharmacy (records_of text.now)) }
-{
-    let table = Table::read(alloc, 1, text)?;
-    let columns = ReceiptColumns::of(&table)?;
-    let mut receipts = Vec::new(alloc);
-    for (place, record) in table.rows().iter().enumerate() {
-        let receipt = columns.receipt(alloc, &table.row(place, record), pharmacy)?;
-        add(&mut receipts, receipt)?;
-    }
-    Ok(receipts)
-}
-
-/// Adds what a row gives, where it gives something.
-fn add(list: &mut Vec<Reply>, one: Option<Reply>) -> Result<(), AllocError>
-    ensures { OnOk result (list.new.items ≡ list.old.items ++ given one) }
-{
-    match one {
-        Some(one) => {
-            list.push(one)?;
-            Ok(())
-        }
-        None => Ok(()),
     }
 }
 
@@ -155,14 +132,22 @@ fn behind_head(bytes: &[u8]) -> &[u8]
     }
 }
 
-impl PacketColumns {
+impl Columns for PacketColumns {
+    type Row = Reply;
+
+    type Whose = Addressee;
+
+    ghost columns_in = { λ records. packet_columns_in records };
+
+    ghost missing = { λ table records. packets_missing table records };
+
+    ghost row_in = { λ columns to row. sent_in columns to.node to.pharmacy row };
+
+    ghost bad = { λ to columns row. sent_bad to.node to.pharmacy columns row };
+
     /// Those of a table.
     #[tactic(auto, unfolding(crate::specs::Received::packets_missing))]
-    fn of(table: &Table) -> Result<PacketColumns, ReportFault>
-        ensures read { IfOk result (λ columns. ArePacketColumns (map fields_of table.now.records.items) columns) }
-        ensures are { IfOk result (λ columns. columns ≡ packet_columns_in (map fields_of table.now.records.items)) }
-        ensures refuses { RefusesFor result (packets_missing table.now.number (map fields_of table.now.records.items)) }
-    {
+    fn of(table: &Table) -> Result<PacketColumns, ReportFault> {
         Ok(PacketColumns {
             to: table.column(Name::To)?,
             carries: table.column(Name::Carries)?,
@@ -174,33 +159,29 @@ impl PacketColumns {
 
     /// The answer of a packet to the node of a pharmacy, where it is one of the pharmacy's own.
     #[tactic(auto, unfolding(crate::specs::Received::sent_in, crate::specs::Received::sent_bad))]
-    fn sent(
+    fn row(
         &self,
         alloc: Global,
         row: &TableRow<'_>,
-        node: &[u8],
-        pharmacy: u64,
-    ) -> Result<Option<Reply>, ReportFault>
-        ensures read { IfOk result (λ sent. sent_in self.now node.now pharmacy (fields_of row.now.record.now) ≡ Some sent) }
-        ensures refuses { RefusesFor result
-            (bad_at row.now.table row.now.number (sent_bad node.now pharmacy self.now (fields_of row.now.record.now))) }
-    {
-        if !self.is_answer_to(row, node) {
+        to: &Addressee,
+    ) -> Result<Option<Reply>, ReportFault> {
+        if !self.is_answer_to(row, to.node.as_slice()) {
             return Ok(None);
         }
-        if row.number(self.pharmacy)? != pharmacy {
+        if row.number(self.pharmacy)? != to.pharmacy {
             return Ok(None);
         }
         Ok(Some(self.answer(alloc, row)?))
     }
+}
 
+impl PacketColumns {
     /// Whether a packet carries an answer to a node.
     fn is_answer_to(&self, row: &TableRow<'_>, node: &[u8]) -> bool
         ensures { result ≡ is_answer_to self.now node.now (fields_of row.now.record.now) }
     {
         row.text(self.carries) == b"answer".as_slice() && row.text(self.to) == node
     }
-
     /// The answer of a packet.
     #[tactic(auto, unfolding(crate::specs::Received::answer_bad))]
     fn answer(&self, alloc: Global, row: &TableRow<'_>) -> Result<Reply, ReportFault>
@@ -215,14 +196,22 @@ impl PacketColumns {
     }
 }
 
-impl ReceiptColumns {
+impl Columns for ReceiptColumns {
+    type Row = Reply;
+
+    type Whose = u64;
+
+    ghost columns_in = { λ records. receipt_columns_in records };
+
+    ghost missing = { λ table records. receipts_missing table records };
+
+    ghost row_in = { λ columns pharmacy row. receipt_in columns pharmacy row };
+
+    ghost bad = { λ pharmacy columns row. receipt_bad pharmacy columns row };
+
     /// Those of a table.
     #[tactic(auto, unfolding(crate::specs::Received::receipts_missing))]
-    fn of(table: &Table) -> Result<ReceiptColumns, ReportFault>
-        ensures read { IfOk result (λ columns. AreReceiptColumns (map fields_of table.now.records.items) columns) }
-        ensures are { IfOk result (λ columns. columns ≡ receipt_columns_in (map fields_of table.now.records.items)) }
-        ensures refuses { RefusesFor result (receipts_missing table.now.number (map fields_of table.now.records.items)) }
-    {
+    fn of(table: &Table) -> Result<ReceiptColumns, ReportFault> {
         Ok(ReceiptColumns {
             pharmacy: table.column(Name::Pharmacy)?,
             number: table.column(Name::Number)?,
@@ -232,22 +221,20 @@ impl ReceiptColumns {
 
     /// What a caller of a pharmacy was told, by a row of it.
     #[tactic(auto, unfolding(crate::specs::Received::receipt_in, crate::specs::Received::receipt_bad))]
-    fn receipt(
+    fn row(
         &self,
         alloc: Global,
         row: &TableRow<'_>,
-        pharmacy: u64,
-    ) -> Result<Option<Reply>, ReportFault>
-        ensures read { IfOk result (λ receipt. receipt_in self.now pharmacy (fields_of row.now.record.now) ≡ Some receipt) }
-        ensures refuses { RefusesFor result
-            (bad_at row.now.table row.now.number (receipt_bad pharmacy self.now (fields_of row.now.record.now))) }
-    {
-        if row.number(self.pharmacy)? != pharmacy {
+        pharmacy: &u64,
+    ) -> Result<Option<Reply>, ReportFault> {
+        if row.number(self.pharmacy)? != *pharmacy {
             return Ok(None);
         }
         Ok(Some(self.told(alloc, row)?))
     }
+}
 
+impl ReceiptColumns {
     /// What a caller was told.
     #[tactic(auto, unfolding(crate::specs::Received::told_bad))]
     fn told(&self, alloc: Global, row: &TableRow<'_>) -> Result<Reply, ReportFault>

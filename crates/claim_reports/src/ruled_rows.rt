@@ -6,13 +6,14 @@ ghost use Rattle.claim_reports.specs.declared.fault.ReportFault.TheVariants.{Out
 ghost use Rattle.claim_reports.specs.Digits.{time_text, day_text};
 ghost use Rattle.claim_reports.specs.Wider.{wider_text};
 ghost use Rattle.claim_reports.specs.Causes.{RefusesFor, bad_at, records_of};
-ghost use Rattle.claim_reports.specs.WhenRuled.{named_in, row_columns_in, call_columns_in, named_missing, row_columns_missing, call_columns_missing, named_bad, request_bad, taken_by_bad, taken_bad, requests_cause, calls_cause, ruled_cause, AreNamed, AreRowColumns, AreCallColumns, request_to, request_in, payer_named, taken_by, taken_in, AreRequests, AreTaken, AddsRuled, AddsTimed, IsTimed, IsRuledTable};
+ghost use Rattle.claim_reports.specs.WhenRuled.{named_in, row_columns_in, call_columns_in, named_missing, row_columns_missing, call_columns_missing, named_bad, request_bad, taken_by_bad, taken_bad, requests_cause, calls_cause, ruled_cause, request_to, request_in, payer_named, taken_by, taken_in, AreRequests, AreTaken, AddsRuled, AddsTimed, IsTimed, IsRuledTable};
 
 use crate::clock::{day_text, shown_at, time_text};
 use crate::fault::ReportFault;
 use crate::naming::Name;
+use crate::reading::{Columns, rows_in};
 use crate::ruled::{Request, Taken, ruled_times};
-use crate::table::{Column, Table, TableRow, add};
+use crate::table::{Column, Table, TableRow};
 use crate::wider::put_wider;
 use csv::ByteRecord;
 use input_text::read_decimal;
@@ -58,7 +59,7 @@ pub fn ruled_table(alloc: Global, rows: &[u8], calls: &[u8]) -> Result<Vec<u8>, 
     table.lacks(Name::RuledAt)?;
     table.lacks(Name::RuledOn)?;
     let requests = requests_of(alloc, &table)?;
-    let taken = taken_in(alloc, calls)?;
+    let taken = rows_in::<CallColumns>(alloc, 2, calls, &())?;
     let times = ruled_times(alloc, taken.as_slice(), requests.as_slice())?;
     with_times(alloc, table.records(), times.as_slice())
 }
@@ -77,21 +78,6 @@ fn requests_of(alloc: Global, table: &Table) -> Result<Vec<Request>, ReportFault
     Ok(requests)
 }
 
-/// The packets with requests that payers took, by a table of `calls`.
-fn taken_in(alloc: Global, text: &[u8]) -> Result<Vec<Taken>, ReportFault>
-    ensures read { IfOk result (λ taken. AreTaken text.now taken.items) }
-    ensures refuses { RefusesFor result (calls_cause (records_of text.now)) }
-{
-    let table = Table::read(alloc, 2, text)?;
-    let columns = CallColumns::of(&table)?;
-    let mut taken = Vec::new(alloc);
-    for (place, record) in table.rows().iter().enumerate() {
-        let call = columns.taken(&table.row(place, record))?;
-        add(&mut taken, call)?;
-    }
-    Ok(taken)
-}
-
 /// The number of the payer that a node is, where it is one.
 fn payer_named(node: &[u8]) -> Option<u64>
     ensures { result ≡ payer_named node.now }
@@ -106,7 +92,6 @@ impl Named {
     /// Those of a table.
     #[tactic(auto, unfolding(crate::specs::WhenRuled::named_missing))]
     fn of(table: &Table) -> Result<Named, ReportFault>
-        ensures read { IfOk result (λ columns. AreNamed (map fields_of table.now.records.items) columns) }
         ensures are { IfOk result (λ columns. columns ≡ named_in (map fields_of table.now.records.items)) }
         ensures refuses { RefusesFor result (named_missing table.now.number (map fields_of table.now.records.items)) }
     {
@@ -135,7 +120,6 @@ impl RowColumns {
     /// Those of a table.
     #[tactic(auto, unfolding(crate::specs::WhenRuled::row_columns_missing))]
     fn of(table: &Table) -> Result<RowColumns, ReportFault>
-        ensures read { IfOk result (λ columns. AreRowColumns (map fields_of table.now.records.items) columns) }
         ensures are { IfOk result (λ columns. columns ≡ row_columns_in (map fields_of table.now.records.items)) }
         ensures refuses { RefusesFor result (row_columns_missing table.now.number (map fields_of table.now.records.items)) }
     {
@@ -157,14 +141,22 @@ impl RowColumns {
     }
 }
 
-impl CallColumns {
+impl Columns for CallColumns {
+    type Row = Taken;
+
+    type Whose = ();
+
+    ghost columns_in = { λ records. call_columns_in records };
+
+    ghost missing = { λ table records. call_columns_missing table records };
+
+    ghost row_in = { λ columns _ row. taken_in columns row };
+
+    ghost bad = { λ _ columns row. taken_bad columns row };
+
     /// Those of a table.
     #[tactic(auto, unfolding(crate::specs::WhenRuled::call_columns_missing))]
-    fn of(table: &Table) -> Result<CallColumns, ReportFault>
-        ensures read { IfOk result (λ columns. AreCallColumns (map fields_of table.now.records.items) columns) }
-        ensures are { IfOk result (λ columns. columns ≡ call_columns_in (map fields_of table.now.records.items)) }
-        ensures refuses { RefusesFor result (call_columns_missing table.now.number (map fields_of table.now.records.items)) }
-    {
+    fn of(table: &Table) -> Result<CallColumns, ReportFault> {
         Ok(CallColumns {
             node: table.column(Name::Node)?,
             time: table.column(Name::Time)?,
@@ -175,17 +167,20 @@ impl CallColumns {
 
     /// What a payer took by a call, where it is one with a request.
     #[tactic(auto, unfolding(crate::specs::WhenRuled::taken_in, crate::specs::WhenRuled::taken_bad))]
-    fn taken(&self, row: &TableRow<'_>) -> Result<Option<Taken>, ReportFault>
-        ensures read { IfOk result (λ taken. taken_in self.now (fields_of row.now.record.now) ≡ Some taken) }
-        ensures refuses { RefusesFor result
-            (bad_at row.now.table row.now.number (taken_bad self.now (fields_of row.now.record.now))) }
-    {
+    fn row(
+        &self,
+        _alloc: Global,
+        row: &TableRow<'_>,
+        _whose: &(),
+    ) -> Result<Option<Taken>, ReportFault> {
         if row.text(self.carries) != b"request".as_slice() {
             return Ok(None);
         }
         self.taken_by(payer_named(row.text(self.node)), row)
     }
+}
 
+impl CallColumns {
     /// What this payer took by a call with a request.
     #[tactic(auto, unfolding(crate::specs::WhenRuled::taken_by_bad))]
     fn taken_by(&self, payer: Option<u64>, row: &TableRow<'_>) -> Result<Option<Taken>, ReportFault>

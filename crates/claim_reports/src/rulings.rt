@@ -5,7 +5,7 @@ ghost use Rattle.csv.specs.Records.{fields_of};
 ghost use Rattle.claim_reports.specs.Causes.{RefusesFor, bad_at, bad_number};
 ghost use Rattle.claim_reports.specs.Tables.{rows_of};
 ghost use Rattle.claim_reports.specs.RulingsSeen.{lines_placed, AddsPlaced, lines_seen, ReadsRow, ReadsOwn, AddsRuling};
-ghost use Rattle.claim_reports.specs.Rulings.{ruling_columns_in, ruling_columns_missing, payment_bad, move_bad, moved_bad, ruling_bad, rulings_bad, count_with, placed, placed_row, placed_from, placed_behind, AreRulingColumns, payment_of, reversal_of, move_of, move_to, AreRulings, moves_before, rulings_behind};
+ghost use Rattle.claim_reports.specs.Rulings.{ruling_columns_in, ruling_columns_missing, payment_bad, move_bad, moved_bad, ruling_bad, rulings_bad, count_with, placed, placed_row, placed_from, placed_behind, payment_of, reversal_of, move_of, move_to, AreRulings, moves_before, rulings_behind};
 
 use crate::fault::ReportFault;
 use crate::ledger::Move;
@@ -31,7 +31,7 @@ pub struct Remittance {
 /// The columns of a table of rows that remittances are made of.
 #[derive(Clone, Copy)]
 pub(crate) struct RulingColumns {
-    payer: Column,
+    pub(crate) payer: Column,
     pharmacy: Column,
     pub(crate) number: Column,
     pub(crate) transaction: Column,
@@ -203,7 +203,6 @@ impl RulingColumns {
     /// Those of a table.
     #[tactic(auto, unfolding(crate::specs::Rulings::ruling_columns_missing))]
     pub(crate) fn of(table: &Table) -> Result<RulingColumns, ReportFault>
-        ensures read { IfOk result (λ columns. AreRulingColumns (map fields_of table.now.records.items) columns) }
         ensures are { IfOk result (λ columns. columns ≡ ruling_columns_in (map fields_of table.now.records.items)) }
         ensures refuses { RefusesFor result
             (ruling_columns_missing table.now.number (map fields_of table.now.records.items)) }
@@ -223,7 +222,11 @@ impl RulingColumns {
 
     /// What the ruling of a row moves, if it is one of the pharmacy's and moves anything.
     #[tactic(auto, unfolding(crate::specs::Rulings::moved_bad))]
-    fn move_to(&self, row: &TableRow<'_>, pharmacy: u64) -> Result<Option<Move>, ReportFault>
+    pub(crate) fn move_to(
+        &self,
+        row: &TableRow<'_>,
+        pharmacy: u64,
+    ) -> Result<Option<Move>, ReportFault>
         ensures read { IfOk result (λ moves. move_to self.now pharmacy (fields_of row.now.record.now) ≡ Some moves) }
         ensures refuses { RefusesFor result
             (bad_at row.now.table row.now.number (moved_bad self.now pharmacy (fields_of row.now.record.now))) }

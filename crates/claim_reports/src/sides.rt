@@ -3,19 +3,21 @@
 ghost use Rattle.std.specs.Prelude.{◌≡◌, map, Some, IfOk};
 ghost use Rattle.csv.specs.Records.{fields_of};
 ghost use Rattle.claim_reports.specs.Causes.{RefusesFor, bad_at, records_of};
-ghost use Rattle.claim_reports.specs.Compared.{parties_in, figure_columns_in, counted_columns_in, entry_columns_in, made_columns_in, parties_missing, figures_missing, counted_missing, entry_missing, made_missing, between_bad, figures_bad, counted_values_bad, made_values_bad, entry_values_bad, counted_bad, made_bad, entry_bad, counted_cause, entries_cause, made_cause, AreParties, AreFigureColumns, AreCountedColumns, AreEntryColumns, AreMadeColumns, is_between, figures_in, counted_payment, made_payment, entry_of, counted_in, made_in, entry_in, AreCounted, AreEntries, AreMade};
+ghost use Rattle.claim_reports.specs.Compared.{parties_in, figure_columns_in, counted_columns_in, entry_columns_in, made_columns_in, parties_missing, figures_missing, counted_missing, entry_missing, made_missing, between_bad, figures_bad, counted_values_bad, made_values_bad, entry_values_bad, counted_bad, made_bad, entry_bad, counted_cause, entries_cause, made_cause, is_between, figures_in, counted_payment, made_payment, entry_of, counted_in, made_in, entry_in, AreCounted, AreEntries, AreMade};
 
 use crate::beside::{Counted, Entry, Figures, Made};
+use crate::books::Books;
 use crate::fault::ReportFault;
 use crate::naming::Name;
-use crate::table::{Column, Table, TableRow, add};
+use crate::reading::Columns;
+use crate::table::{Column, Table, TableRow};
 use std::alloc::Global;
 
-/// Which payer and which pharmacy.
+/// Which books of a payer and which pharmacy.
 #[derive(Clone, Copy)]
 pub struct Between {
-    /// The payer.
-    pub payer: u64,
+    /// The books.
+    pub books: Books,
     /// The pharmacy.
     pub pharmacy: u64,
 }
@@ -40,7 +42,7 @@ struct FigureColumns {
 
 /// The columns of a table `counted`.
 #[derive(Clone, Copy)]
-struct CountedColumns {
+pub(crate) struct CountedColumns {
     parties: Parties,
     auth: Column,
     figures: FigureColumns,
@@ -48,7 +50,7 @@ struct CountedColumns {
 
 /// The columns of a table `entries`.
 #[derive(Clone, Copy)]
-struct EntryColumns {
+pub(crate) struct EntryColumns {
     pharmacy: Column,
     number: Column,
     state: Column,
@@ -56,7 +58,7 @@ struct EntryColumns {
 
 /// The columns of a table `payments`.
 #[derive(Clone, Copy)]
-struct MadeColumns {
+pub(crate) struct MadeColumns {
     parties: Parties,
     auth: Column,
     number: Column,
@@ -64,68 +66,10 @@ struct MadeColumns {
     reversed_by: Column,
 }
 
-/// The payments of the payer that the pharmacy counts, by the first table.
-pub(crate) fn counted_in(
-    alloc: Global,
-    text: &[u8],
-    between: Between,
-) -> Result<Vec<Counted>, ReportFault>
-    ensures read { IfOk result (λ counted. AreCounted between text.now counted.items) }
-    ensures refuses { RefusesFor result (counted_cause between (records_of text.now)) }
-{
-    let table = Table::read(alloc, 1, text)?;
-    let columns = CountedColumns::of(&table)?;
-    let mut counted = Vec::new(alloc);
-    for (place, record) in table.rows().iter().enumerate() {
-        let payment = columns.counted(&table.row(place, record), between)?;
-        add(&mut counted, payment)?;
-    }
-    Ok(counted)
-}
-
-/// The entries of a pharmacy, by the second table.
-pub(crate) fn entries_in(
-    alloc: Global,
-    text: &[u8],
-    pharmacy: u64,
-) -> Result<Vec<Entry>, ReportFault>
-    ensures read { IfOk result (λ entries. AreEntries pharmacy text.now entries.items) }
-    ensures refuses { RefusesFor result (entries_cause pharmacy (records_of text.now)) }
-{
-    let table = Table::read(alloc, 2, text)?;
-    let columns = EntryColumns::of(&table)?;
-    let mut entries = Vec::new(alloc);
-    for (place, record) in table.rows().iter().enumerate() {
-        let entry = columns.entry(&table.row(place, record), pharmacy)?;
-        add(&mut entries, entry)?;
-    }
-    Ok(entries)
-}
-
-/// The payments of the payer that the pharmacy asked for, by the third table.
-pub(crate) fn made_in(
-    alloc: Global,
-    text: &[u8],
-    between: Between,
-) -> Result<Vec<Made>, ReportFault>
-    ensures read { IfOk result (λ made. AreMade between text.now made.items) }
-    ensures refuses { RefusesFor result (made_cause between (records_of text.now)) }
-{
-    let table = Table::read(alloc, 3, text)?;
-    let columns = MadeColumns::of(&table)?;
-    let mut made = Vec::new(alloc);
-    for (place, record) in table.rows().iter().enumerate() {
-        let payment = columns.made(&table.row(place, record), between)?;
-        add(&mut made, payment)?;
-    }
-    Ok(made)
-}
-
 impl Parties {
     /// Those of a table.
     #[tactic(auto, unfolding(crate::specs::Compared::parties_missing))]
     fn of(table: &Table) -> Result<Parties, ReportFault>
-        ensures read { IfOk result (λ columns. AreParties (map fields_of table.now.records.items) columns) }
         ensures are { IfOk result (λ columns. columns ≡ parties_in (map fields_of table.now.records.items)) }
         ensures refuses { RefusesFor result (parties_missing table.now.number (map fields_of table.now.records.items)) }
     {
@@ -135,14 +79,14 @@ impl Parties {
         })
     }
 
-    /// Whether a row is of the payer, and then of the pharmacy.
+    /// Whether a row is of one of the books, and then of the pharmacy.
     #[tactic(auto, unfolding(crate::specs::Compared::between_bad))]
     fn are(&self, row: &TableRow<'_>, between: Between) -> Result<bool, ReportFault>
         ensures read { IfOk result (λ is. is_between self.now between (fields_of row.now.record.now) ≡ Some is) }
         ensures refuses { RefusesFor result
             (bad_at row.now.table row.now.number (between_bad self.now between (fields_of row.now.record.now))) }
     {
-        if row.number(self.payer)? != between.payer {
+        if !between.books.has(row.number(self.payer)?) {
             return Ok(false);
         }
         Ok(row.number(self.pharmacy)? == between.pharmacy)
@@ -153,7 +97,6 @@ impl FigureColumns {
     /// Those of a table.
     #[tactic(auto, unfolding(crate::specs::Compared::figures_missing))]
     fn of(table: &Table) -> Result<FigureColumns, ReportFault>
-        ensures read { IfOk result (λ columns. AreFigureColumns (map fields_of table.now.records.items) columns) }
         ensures are { IfOk result (λ columns. columns ≡ figure_columns_in (map fields_of table.now.records.items)) }
         ensures refuses { RefusesFor result (figures_missing table.now.number (map fields_of table.now.records.items)) }
     {
@@ -185,14 +128,22 @@ impl FigureColumns {
     }
 }
 
-impl CountedColumns {
+impl Columns for CountedColumns {
+    type Row = Counted;
+
+    type Whose = Between;
+
+    ghost columns_in = { λ records. counted_columns_in records };
+
+    ghost missing = { λ table records. counted_missing table records };
+
+    ghost row_in = { λ columns between row. counted_in columns between row };
+
+    ghost bad = { λ between columns row. counted_bad between columns row };
+
     /// Those of a table.
     #[tactic(auto, unfolding(crate::specs::Compared::counted_missing))]
-    fn of(table: &Table) -> Result<CountedColumns, ReportFault>
-        ensures read { IfOk result (λ columns. AreCountedColumns (map fields_of table.now.records.items) columns) }
-        ensures are { IfOk result (λ columns. columns ≡ counted_columns_in (map fields_of table.now.records.items)) }
-        ensures refuses { RefusesFor result (counted_missing table.now.number (map fields_of table.now.records.items)) }
-    {
+    fn of(table: &Table) -> Result<CountedColumns, ReportFault> {
         Ok(CountedColumns {
             parties: Parties::of(table)?,
             auth: table.column(Name::Authorization)?,
@@ -202,17 +153,20 @@ impl CountedColumns {
 
     /// The payment of a row that is of both.
     #[tactic(auto, unfolding(crate::specs::Compared::counted_in, crate::specs::Compared::counted_bad))]
-    fn counted(&self, row: &TableRow<'_>, between: Between) -> Result<Option<Counted>, ReportFault>
-        ensures read { IfOk result (λ counted. counted_in self.now between (fields_of row.now.record.now) ≡ Some counted) }
-        ensures refuses { RefusesFor result
-            (bad_at row.now.table row.now.number (counted_bad between self.now (fields_of row.now.record.now))) }
-    {
-        if !self.parties.are(row, between)? {
+    fn row(
+        &self,
+        _alloc: Global,
+        row: &TableRow<'_>,
+        between: &Between,
+    ) -> Result<Option<Counted>, ReportFault> {
+        if !self.parties.are(row, *between)? {
             return Ok(None);
         }
         Ok(Some(self.payment(row)?))
     }
+}
 
+impl CountedColumns {
     /// The payment of a row.
     #[tactic(auto, unfolding(crate::specs::Compared::counted_values_bad))]
     fn payment(&self, row: &TableRow<'_>) -> Result<Counted, ReportFault>
@@ -227,14 +181,22 @@ impl CountedColumns {
     }
 }
 
-impl EntryColumns {
+impl Columns for EntryColumns {
+    type Row = Entry;
+
+    type Whose = u64;
+
+    ghost columns_in = { λ records. entry_columns_in records };
+
+    ghost missing = { λ table records. entry_missing table records };
+
+    ghost row_in = { λ columns pharmacy row. entry_in columns pharmacy row };
+
+    ghost bad = { λ pharmacy columns row. entry_bad pharmacy columns row };
+
     /// Those of a table.
     #[tactic(auto, unfolding(crate::specs::Compared::entry_missing))]
-    fn of(table: &Table) -> Result<EntryColumns, ReportFault>
-        ensures read { IfOk result (λ columns. AreEntryColumns (map fields_of table.now.records.items) columns) }
-        ensures are { IfOk result (λ columns. columns ≡ entry_columns_in (map fields_of table.now.records.items)) }
-        ensures refuses { RefusesFor result (entry_missing table.now.number (map fields_of table.now.records.items)) }
-    {
+    fn of(table: &Table) -> Result<EntryColumns, ReportFault> {
         Ok(EntryColumns {
             pharmacy: table.column(Name::Pharmacy)?,
             number: table.column(Name::Number)?,
@@ -244,17 +206,20 @@ impl EntryColumns {
 
     /// The entry of a row that is of the pharmacy.
     #[tactic(auto, unfolding(crate::specs::Compared::entry_in, crate::specs::Compared::entry_bad))]
-    fn entry(&self, row: &TableRow<'_>, pharmacy: u64) -> Result<Option<Entry>, ReportFault>
-        ensures read { IfOk result (λ entry. entry_in self.now pharmacy (fields_of row.now.record.now) ≡ Some entry) }
-        ensures refuses { RefusesFor result
-            (bad_at row.now.table row.now.number (entry_bad pharmacy self.now (fields_of row.now.record.now))) }
-    {
-        if row.number(self.pharmacy)? != pharmacy {
+    fn row(
+        &self,
+        _alloc: Global,
+        row: &TableRow<'_>,
+        pharmacy: &u64,
+    ) -> Result<Option<Entry>, ReportFault> {
+        if row.number(self.pharmacy)? != *pharmacy {
             return Ok(None);
         }
         Ok(Some(self.own(row)?))
     }
+}
 
+impl EntryColumns {
     /// The entry of a row.
     #[tactic(auto, unfolding(crate::specs::Compared::entry_values_bad))]
     fn own(&self, row: &TableRow<'_>) -> Result<Entry, ReportFault>
@@ -269,14 +234,22 @@ impl EntryColumns {
     }
 }
 
-impl MadeColumns {
+impl Columns for MadeColumns {
+    type Row = Made;
+
+    type Whose = Between;
+
+    ghost columns_in = { λ records. made_columns_in records };
+
+    ghost missing = { λ table records. made_missing table records };
+
+    ghost row_in = { λ columns between row. made_in columns between row };
+
+    ghost bad = { λ between columns row. made_bad between columns row };
+
     /// Those of a table.
     #[tactic(auto, unfolding(crate::specs::Compared::made_missing))]
-    fn of(table: &Table) -> Result<MadeColumns, ReportFault>
-        ensures read { IfOk result (λ columns. AreMadeColumns (map fields_of table.now.records.items) columns) }
-        ensures are { IfOk result (λ columns. columns ≡ made_columns_in (map fields_of table.now.records.items)) }
-        ensures refuses { RefusesFor result (made_missing table.now.number (map fields_of table.now.records.items)) }
-    {
+    fn of(table: &Table) -> Result<MadeColumns, ReportFault> {
         Ok(MadeColumns {
             parties: Parties::of(table)?,
             auth: table.column(Name::Authorization)?,
@@ -288,17 +261,20 @@ impl MadeColumns {
 
     /// The payment of a row that is of both.
     #[tactic(auto, unfolding(crate::specs::Compared::made_in, crate::specs::Compared::made_bad))]
-    fn made(&self, row: &TableRow<'_>, between: Between) -> Result<Option<Made>, ReportFault>
-        ensures read { IfOk result (λ made. made_in self.now between (fields_of row.now.record.now) ≡ Some made) }
-        ensures refuses { RefusesFor result
-            (bad_at row.now.table row.now.number (made_bad between self.now (fields_of row.now.record.now))) }
-    {
-        if !self.parties.are(row, between)? {
+    fn row(
+        &self,
+        _alloc: Global,
+        row: &TableRow<'_>,
+        between: &Between,
+    ) -> Result<Option<Made>, ReportFault> {
+        if !self.parties.are(row, *between)? {
             return Ok(None);
         }
         Ok(Some(self.payment(row)?))
     }
+}
 
+impl MadeColumns {
     /// The payment of a row.
     #[tactic(auto, unfolding(crate::specs::Compared::made_values_bad))]
     fn payment(&self, row: &TableRow<'_>) -> Result<Made, ReportFault>

@@ -1,10 +1,10 @@
 //! Tables as they are read: rows of fields under the names of columns.
 
-ghost use Rattle.std.specs.Prelude.{◌≡◌, ℕ, ◌+◌, ◌<◌, ◌^◌, ◌++◌, List, length, map, IfOk, OnOk, IfErr, OnErr, Some, None, bytes_eq};
+ghost use Rattle.std.specs.Prelude.{◌≡◌, ℕ, ◌+◌, ◌<◌, ◌^◌, List, length, map, IfOk, OnOk, IfErr, OnErr, Some, None, bytes_eq};
 ghost use Rattle.std.specs.List.{position_from};
 ghost use Rattle.csv.specs.Reading.{error_kind};
 ghost use Rattle.csv.specs.Records.{fields_of};
-ghost use Rattle.claim_reports.specs.Tables.{AreRecordsOf, rows_of, column_of, cell, number_in, optional_in, word_in, given};
+ghost use Rattle.claim_reports.specs.Tables.{AreRecordsOf, rows_of, column_of, cell, number_in, optional_in, word_in};
 ghost use Rattle.claim_reports.specs.Names.{name_text};
 ghost use Rattle.claim_reports.specs.Causes.{BadValue as IsBad, NoColumn as Lacks, RefusesFor, bad_at, bad_number, bad_optional, bad_word, cause_of, column_in, missing, present, records_of, unequal, uneven};
 
@@ -226,18 +226,5 @@ impl<'a> TableRow<'a> {
         ensures { cause_of result ≡ Some (IsBad self.now.table self.now.number (name_text column.name)) }
     {
         ReportFault::BadValue(self.table, self.number, column.name.text())
-    }
-}
-
-/// Adds what a row gives, where it gives something.
-pub(crate) fn add<T: Copy>(list: &mut Vec<T>, one: Option<T>) -> Result<(), AllocError>
-    ensures { OnOk result (list.new.items ≡ list.old.items ++ given one) }
-{
-    match one {
-        Some(one) => {
-            list.push(one)?;
-            Ok(())
-        }
-        None => Ok(()),
     }
 }

@@ -6,8 +6,9 @@ ghost use Rattle.csv.specs.Records.{fields_of};
 ghost use Rattle.claim_reports.specs.Totals.{key_cmp};
 ghost use Rattle.claim_reports.specs.Causes.{BadValue as IsBad, RefusesFor, bad_at, cause_of};
 ghost use Rattle.claim_reports.specs.Names.{name_text};
-ghost use Rattle.claim_reports.specs.Totalled.{day_name, day_column, by_name, AreColumns, columns_in, columns_missing, bad_day, paid_bad, paid_cause, payments_in, totals_cause, day_in, paid_in, ArePaid, total_row, totals_text, IsTotalled};
-ghost use Rattle.table_text.specs.Adding.{AddsRow};
+ghost use Rattle.claim_reports.specs.Totalled.{day_name, day_column, by_name, columns_in, columns_missing, bad_day, paid_bad, paid_cause, payments_in, totals_cause, day_in, paid_in, ArePaid, all_names, all_row, is_all, keyed_names, keyed_row, total_names, total_row, totals_text, IsTotalled};
+ghost use Rattle.table_text.specs.Adding.{Adds, AddsRow};
+ghost use Rattle.table_text.specs.Rows.{head_text};
 ghost use Rattle.table_text.specs.declared.layout.Style.TheVariants.{Csv};
 
 use crate::choice::{Choice, Paid, chosen};
@@ -39,7 +40,7 @@ struct Columns {
 }
 
 /// The totals of those payments of a table of `payments` that are chosen, as CSV: a row for each number, in its order, and
-/// before them one for the payments without a day, where there are some.
+/// before them one for the payments without a day, where there are some; or one row for all of them together.
 ///
 /// # Errors
 /// A table that is none, or has a value of another kind; a sum of more than 64 bits; want of memory.
@@ -60,7 +61,7 @@ pub fn totals_table(
     let kept = chosen(alloc, choice, paid.as_slice())?;
     let totals = totals_of(alloc, by, kept.as_slice())?;
     let mut out = Vec::new(alloc);
-    put_totals(&mut out, by.name(days).as_bytes(), &totals)?;
+    put_totals(&mut out, by, days, &totals)?;
     Ok(out)
 }
 
@@ -82,7 +83,6 @@ fn paid_in(alloc: Global, table: &Table, days: Days) -> Result<Vec<Paid>, Report
 impl Columns {
     /// Those of a table.
     fn of(table: &Table, days: Days) -> Result<Columns, ReportFault>
-        ensures read { IfOk result (λ columns. AreColumns days (map fields_of table.now.records.items) columns) }
         ensures are { IfOk result (λ columns. columns ≡ columns_in days (map fields_of table.now.records.items)) }
         ensures refuses { RefusesFor result (columns_missing table.now.number days (map fields_of table.now.records.items)) }
     {
@@ -115,11 +115,49 @@ impl Columns {
 /// Appends totals.
 fn put_totals(
     out: &mut Vec<u8>,
-    name: &'static [u8],
+    by: By,
+    days: Days,
     totals: &BTreeMap<Option<u64>, Sums>,
 ) -> Result<(), AllocError>
-    ensures text { OnOk result (out.new.items ≡ out.old.items ++ totals_text name.now totals.now.entries) }
+    ensures text { OnOk result (out.new.items ≡ out.old.items ++ totals_text by days totals.now.entries) }
     ensures ordered { OnOk result (IsOrdered key_cmp totals.now) }
+{
+    put_total_names(out, by, days)?;
+    for (number, sums) in totals {
+        put_total(out, by, days, *number, sums)?;
+    }
+    Ok(())
+}
+
+/// Appends the names of the columns; those of all payments together have no number.
+fn put_total_names(out: &mut Vec<u8>, by: By, days: Days) -> Result<(), AllocError>
+    ensures { OnOk result (Adds out.old out.new (head_text (total_names by days))) }
+{
+    if by.is_all() {
+        put_all_names(out)
+    } else {
+        put_keyed_names(out, by.name(days).as_bytes())
+    }
+}
+
+/// Appends the names of the columns of the sums of all payments together.
+fn put_all_names(out: &mut Vec<u8>) -> Result<(), AllocError>
+    ensures { OnOk result (Adds out.old out.new (head_text all_names)) }
+{
+    put_head(
+        out,
+        &[
+            b"payments",
+            b"cents",
+            b"reversed_payments",
+            b"reversed_cents",
+        ],
+    )
+}
+
+/// Appends the names of the columns of the sums of numbers, which stand under a name.
+fn put_keyed_names(out: &mut Vec<u8>, name: &'static [u8]) -> Result<(), AllocError>
+    ensures { OnOk result (Adds out.old out.new (head_text (keyed_names name.now))) }
 {
     put_head(
         out,
@@ -130,22 +168,49 @@ fn put_totals(
             b"reversed_payments",
             b"reversed_cents",
         ],
-    )?;
-    for (number, sums) in totals {
-        put_total(out, name, *number, sums)?;
+    )
+}
+
+/// Appends the sums of a number; those of all payments together have none.
+fn put_total(
+    out: &mut Vec<u8>,
+    by: By,
+    days: Days,
+    number: Option<u64>,
+    sums: &Sums,
+) -> Result<(), AllocError>
+    ensures { OnOk result (AddsRow Csv out.old out.new (total_row by days number sums.now)) }
+{
+    if by.is_all() {
+        put_all(out, sums)
+    } else {
+        put_keyed(out, by.name(days).as_bytes(), number, sums)
     }
-    Ok(())
+}
+
+/// Appends the sums of all payments together.
+#[tactic(auto, unfolding(crate::specs::Totalled::all_row))]
+fn put_all(out: &mut Vec<u8>, sums: &Sums) -> Result<(), AllocError>
+    ensures { OnOk result (AddsRow Csv out.old out.new (all_row sums.now)) }
+{
+    let fields = [
+        Field::number(b"payments", sums.count),
+        Field::number(b"cents", sums.cents),
+        Field::number(b"reversed_payments", sums.reversed_count),
+        Field::number(b"reversed_cents", sums.reversed_cents),
+    ];
+    put_row(out, Style::Csv, &fields)
 }
 
 /// Appends the sums of a number, which stands under a name.
-#[tactic(auto, unfolding(crate::specs::Totalled::total_row))]
-fn put_total(
+#[tactic(auto, unfolding(crate::specs::Totalled::keyed_row))]
+fn put_keyed(
     out: &mut Vec<u8>,
     name: &'static [u8],
     number: Option<u64>,
     sums: &Sums,
 ) -> Result<(), AllocError>
-    ensures { OnOk result (AddsRow Csv out.old out.new (total_row name.now number sums.now)) }
+    ensures { OnOk result (AddsRow Csv out.old out.new (keyed_row name.now number sums.now)) }
 {
     let fields = [
         Field::number_or_nothing(name, number),
@@ -158,7 +223,19 @@ fn put_total(
 }
 
 impl By {
-    /// The name of its column.
+    /// Whether it is all payments together.
+    fn is_all(self) -> bool
+        ensures { result ≡ is_all self }
+    {
+        match self {
+            By::All => true,
+            By::Payer => false,
+            By::Pharmacy => false,
+            By::Day => false,
+        }
+    }
+
+    /// The name of its column, where it has one.
     fn name(self, days: Days) -> &'static str
         ensures { result.now ≡ by_name self days }
     {
@@ -166,6 +243,7 @@ impl By {
             By::Payer => "payer",
             By::Pharmacy => "pharmacy",
             By::Day => days.name(),
+            By::All => "",
         }
     }
 }

@@ -19,6 +19,8 @@ pub enum By {
     Pharmacy,
     /// The day that the report goes by.
     Day,
+    /// Nothing: all payments are in one row.
+    All,
 }
 
 /// How many payments there are, and what they come to in cents: those that stand, and those that were reversed.
@@ -34,7 +36,7 @@ pub struct Sums {
     pub reversed_cents: u64,
 }
 
-/// The sums of payments by payer, by pharmacy or by day: first those of payments without a day, the others in order of its
+/// The sums of payments by payer, by pharmacy, by day or all together: first those of payments without a day, the others in order of its
 /// number.
 ///
 /// # Errors
@@ -99,6 +101,7 @@ impl By {
             By::Payer => Some(payment.payer),
             By::Pharmacy => Some(payment.pharmacy),
             By::Day => payment.day,
+            By::All => None,
         }
     }
 }

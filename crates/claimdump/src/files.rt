@@ -1,5 +1,10 @@
 //! The files of a replay.
 
+ghost use Rattle.std.specs.Prelude.{◌≡◌, Some, IfOk};
+ghost use Rattle.world_settings.specs.Document.{document_seen, living_in};
+ghost use Rattle.settings_digest.specs.Digests.{digest_in};
+ghost use Rattle.claimdump.specs.Opening.{IsOpening};
+
 use crate::fault::DumpFault;
 use crate::file::DumpFile;
 use crate::names::file_name;
@@ -12,7 +17,7 @@ use settings_digest::said;
 use std::alloc::{AllocError, Global};
 use world_core::World;
 use world_settings::{SettingsFault, living_settings_fault, read_living_settings};
-use world_setup::{Event, Fault, Node, WorldFault};
+use world_setup::{Event, Fault, Node, WorldFault, WorldSettings};
 
 /// The files of a replay: `settings.toml`; of each node its log, as `ph1.log`; of each pharmacy the record of its
 /// journal, as `ph1.journal`, and of each payer that of its book, as `pr1.book`, as they are after all events.
@@ -32,18 +37,33 @@ pub(crate) fn dump(alloc: Global, input: &[u8]) -> Result<Vec<DumpFile>, DumpFau
 }
 
 /// The opening world of settings, and the digest of what they say.
-fn opened(alloc: Global, text: &[u8]) -> Result<(World, SettingsDigest), DumpFault> {
+fn opened(alloc: Global, text: &[u8]) -> Result<(World, SettingsDigest), DumpFault>
+    ensures { IfOk result (λ opened. IsOpening text.now opened.0 opened.1) }
+{
     let settings = match read_living_settings(alloc, text) {
         Ok(settings) => settings,
         Err(SettingsFault::OutOfMemory) => return Err(DumpFault::OutOfMemory),
         Err(SettingsFault::Settings) => return Err(why_refused(alloc, text)?),
     };
-    let digest = SettingsDigest::of_said(said(alloc, &settings)?.as_slice());
+    let digest = digest_of(alloc, text, &settings)?;
     match World::new(alloc, settings) {
         Ok(world) => Ok((world, digest)),
         Err(WorldFault::OutOfMemory) => Err(DumpFault::OutOfMemory),
         Err(fault) => Err(DumpFault::World(fault)),
     }
+}
+
+/// The digest of what settings say that a text spells.
+fn digest_of(
+    alloc: Global,
+    _text: &[u8],
+    settings: &WorldSettings,
+) -> Result<SettingsDigest, AllocError>
+    requires { living_in _text.now ≡ Some (document_seen settings.now) }
+    ensures { IfOk result (λ digest. digest ≡ digest_in _text.now) }
+{
+    let text = said(alloc, settings)?;
+    Ok(SettingsDigest::of_said(text.as_slice()))
 }
 
 /// What is wrong in settings that spell none.

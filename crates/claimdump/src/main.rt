@@ -2,6 +2,7 @@
 //! settings, the log of each node, and the record of each journal and book.
 #![tactic(auto)]
 
+mod calls;
 mod fault;
 mod file;
 mod files;

@@ -1,7 +1,12 @@
 //! A world, and the log of each of its nodes.
 
+ghost use Rattle.std.specs.Prelude.{◌≡◌, ◌+◌, ◌<◌, [], ◌∷◌, ◌++◌, map, OnOk};
+ghost use Rattle.world_setup.specs.Seen.{call_seen, packet_seen, sent_seen};
+ghost use Rattle.node_log.specs.LogSeen.{log_seen, with_call};
+ghost use Rattle.claimdump.specs.Calls.{sent_as};
+
+use crate::calls::call_of;
 use node_log::NodeLog;
-use octets::Octets;
 use std::alloc::{AllocError, Global};
 use world_core::World;
 use world_setup::{Call, Event, Fault, Node, Packet, Sent};
@@ -41,8 +46,7 @@ impl Recorded {
 
     /// Records the call of an accepted event with the packets from this number on.
     fn record(&mut self, event: &Event, first: u64) -> Result<(), AllocError> {
-        let node = addressee(&self.world, event);
-        let Some(call) = call_of(&self.world, event)? else {
+        let Some((node, call)) = call_of(self.world.packets(), event)? else {
             return Ok(());
         };
         let sent = sent_from(self.alloc, self.world.packets(), first)?;
@@ -50,8 +54,10 @@ impl Recorded {
     }
 }
 
-/// The number of the node at a place among those of its kind.
-pub(crate) fn number_of(place: usize) -> u16 {
+/// The number of the node at a place among those of its kind, of which there are at most 65,535.
+pub(crate) fn number_of(place: usize) -> u16
+    ensures { place < 65535 → result ≡ place + 1 }
+{
     if place < 65_535 { place as u16 + 1 } else { 0 }
 }
 
@@ -66,81 +72,13 @@ fn enter(logs: &mut [NodeLog], node: Node, call: Call, sent: Vec<Sent>) -> Resul
 }
 
 /// Records a call in a log.
-fn put(log: &mut NodeLog, call: Call, sent: Vec<Sent>) -> Result<(), AllocError> {
+fn put(log: &mut NodeLog, call: Call, sent: Vec<Sent>) -> Result<(), AllocError>
+    ensures { OnOk result (log_seen log.new
+        ≡ with_call (log_seen log.old) (record { call = call_seen call; sent = map sent_seen sent.items })) }
+{
     log.reserve()?;
     log.record(call, sent);
     Ok(())
-}
-
-/// The packet of a number.
-fn packet_of(world: &World, number: u64) -> Option<&Packet> {
-    match number.checked_sub(1) {
-        Some(place) => world.packets().get(place as usize),
-        None => None,
-    }
-}
-
-/// The node that an accepted event calls.
-fn addressee(world: &World, event: &Event) -> Node {
-    match event {
-        Event::Submit { pharmacy, .. } => Node::Pharmacy(*pharmacy),
-        Event::Tick { pharmacy } => Node::Pharmacy(*pharmacy),
-        Event::Deliver { packet } | Event::Adjudicate { packet, .. } => {
-            match packet_of(world, *packet) {
-                Some(packet) => packet.to,
-                None => Node::Switch(0),
-            }
-        }
-        Event::Stop(node) => *node,
-        Event::Start(node) => *node,
-        Event::Plan { payer, .. } | Event::Terms { payer, .. } => Node::Payer(*payer),
-    }
-}
-
-/// The call of an event; none of a packet that was never sent.
-fn call_of(world: &World, event: &Event) -> Result<Option<Call>, AllocError> {
-    match event {
-        Event::Submit { text, .. } => Ok(Some(Call::Submit(text.copy()?))),
-        Event::Tick { .. } => Ok(Some(Call::Tick)),
-        Event::Deliver { packet } => match packet_of(world, *packet) {
-            Some(packet) => taking(packet.from, &packet.bytes),
-            None => Ok(None),
-        },
-        Event::Stop(_) => Ok(Some(Call::Stop)),
-        Event::Start(_) => Ok(Some(Call::Start)),
-        Event::Plan { product, price, .. } => plan(product, *price),
-        Event::Terms { fee, copay, .. } => Ok(Some(Call::Terms {
-            fee: *fee,
-            copay: *copay,
-        })),
-        Event::Adjudicate { packet, advice } => match packet_of(world, *packet) {
-            Some(packet) => adjudicating(packet.from, &packet.bytes, advice),
-            None => Ok(None),
-        },
-    }
-}
-
-/// The taking of a packet.
-fn taking(from: Node, bytes: &Octets) -> Result<Option<Call>, AllocError> {
-    let bytes = bytes.copy()?;
-    Ok(Some(Call::Take { from, bytes }))
-}
-
-/// The taking of a packet with an advice.
-fn adjudicating(from: Node, bytes: &Octets, advice: &Octets) -> Result<Option<Call>, AllocError> {
-    let bytes = bytes.copy()?;
-    let advice = advice.copy()?;
-    Ok(Some(Call::Adjudicate {
-        from,
-        bytes,
-        advice,
-    }))
-}
-
-/// A change of a price.
-fn plan(product: &Octets, price: Option<u32>) -> Result<Option<Call>, AllocError> {
-    let product = product.copy()?;
-    Ok(Some(Call::Plan { product, price }))
 }
 
 /// The packets from a number on, as they were sent.
@@ -154,7 +92,10 @@ fn sent_from(alloc: Global, packets: &[Packet], first: u64) -> Result<Vec<Sent>,
 }
 
 /// Appends a packet.
-fn push_sent(all: &mut Vec<Sent>, packet: &Packet) -> Result<(), AllocError> {
+fn push_sent(all: &mut Vec<Sent>, packet: &Packet) -> Result<(), AllocError>
+    ensures { OnOk result (map sent_seen all.new.items
+        ≡ map sent_seen all.old.items ++ sent_as (packet_seen packet.now) ∷ []) }
+{
     let bytes = packet.bytes.copy()?;
     all.push(Sent {
         to: packet.to,

@@ -2,9 +2,48 @@
 
 use crate::Ungone;
 use crate::finding::Finding;
-use clap::{Arg, ArgAction, Command};
-use command_line::{End, VERSION};
+use command_line::{End, Program, Takes, Word};
 use std::alloc::Global;
+
+/// What the help says of a word.
+const REJECT: &str =
+    "writes the rows of NEW by which requests that switches rejected, and that have a route now, stay rejected; and no log";
+
+/// The program, and its words.
+const PROGRAM: Program = Program {
+    name: "claimgrow",
+    about: "Takes the logs of nodes over to settings that theirs have grown to: more nodes and routes, larger caps.",
+    after: "",
+    words: &[
+        Word {
+            name: "check",
+            takes: Takes::Flag,
+            help: "tells of each log whether it goes over, and writes none",
+        },
+        Word {
+            name: "reject",
+            takes: Takes::Flag,
+            help: REJECT,
+        },
+        Word {
+            name: "OLD",
+            takes: Takes::Place,
+            help: "the settings of the logs, a TOML file",
+        },
+        Word {
+            name: "NEW",
+            takes: Takes::Place,
+            help: "the settings that they have grown to",
+        },
+        Word {
+            name: "LOG",
+            takes: Takes::Places,
+            help: "the log of a node that is stopped",
+        },
+    ],
+    never_with: &[("reject", "check")],
+    only_with: &[],
+};
 
 /// What the command line names.
 #[derive(Drop)]
@@ -23,53 +62,19 @@ pub(crate) struct Words<'a> {
 
 /// What the command line names; its first word is the program's own name.
 pub(crate) fn words_of<'a>(alloc: Global, given: &'a [String]) -> Result<Words<'a>, Ungone> {
-    let check = Arg::new(alloc, "check")
-        .long("check")
-        .action(ArgAction::SetTrue)
-        .help("tells of each log whether it goes over, and writes none");
-    let reject = Arg::new(alloc, "reject")
-        .long("reject")
-        .action(ArgAction::SetTrue)
-        .conflicts_with("check")?
-        .help(
-            "writes the rows of NEW by which requests that switches rejected, and that have a route now, stay rejected; and no log",
-        );
-    let logs = Arg::new(alloc, "LOG")
-        .required(true)
-        .action(ArgAction::Append)
-        .num_args(1..)
-        .help("the log of a node that is stopped");
-    let command = Command::new(alloc, "claimgrow")
-        .version(VERSION)
-        .about(
-            "Takes the logs of nodes over to settings that theirs have grown to: more nodes and routes, larger caps.",
-        )
-        .arg(check)?
-        .arg(reject)?
-        .arg(settings(alloc, "OLD", "the settings of the logs, a TOML file"))?
-        .arg(settings(alloc, "NEW", "the settings that they have grown to"))?
-        .arg(logs)?;
-    let matches = command.try_get_matches_from(given)?;
+    let found = PROGRAM.matches(alloc, given)?;
     match (
-        matches.get_str("OLD"),
-        matches.get_str("NEW"),
-        matches.get_strs("LOG"),
+        found.get_str("OLD"),
+        found.get_str("NEW"),
+        found.get_strs("LOG"),
     ) {
         (Some(old), Some(new), Some(logs)) => Ok(Words {
-            check: matches.get_flag("check"),
-            reject: matches.get_flag("reject"),
+            check: found.get_flag("check"),
+            reject: found.get_flag("reject"),
             old,
             new,
             logs: Vec::from_slice(alloc, logs)?,
         }),
         _ => Err(End::Own(Finding::Usage)),
     }
-}
-
-/// A file of settings, which has to be named.
-fn settings<'a>(alloc: Global, name: &'a str, help: &'a str) -> Arg<'a> {
-    Arg::new(alloc, name)
-        .required(true)
-        .action(ArgAction::Set)
-        .help(help)
 }

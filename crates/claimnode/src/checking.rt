@@ -1,8 +1,13 @@
 //! Whether settings have a node.
 
+ghost use Rattle.std.specs.Prelude.{ℕ, List, IfErr, IfOk, OnOk};
+ghost use Rattle.claim_model.specs.Node as model;
+ghost use Rattle.world_setup.specs.Seen.{node_seen};
+ghost use Rattle.node_service.specs.Refused.{NoSettings};
+ghost use Rattle.node_service.specs.declared.fault.ServiceFault.TheVariants.{Settings};
+ghost use Rattle.claimnode.specs.Checked.{HasNode, IsUnchecked, TellsOfNode};
+
 use crate::finding::Finding;
-use crate::words::Words;
-use command_line::End;
 use node_log::is_there;
 use node_service::ServiceFault;
 use std::alloc::Global;
@@ -13,35 +18,40 @@ use world_setup::{CheckedSettings, Node};
 ///
 /// # Errors
 /// The text spells no settings, or such as no world takes, or they have no such node.
-pub(crate) fn check_settings(
-    rt: &HostRuntime,
-    words: &Words<'_>,
-    text: &[u8],
-) -> Result<(), End<Finding>> {
-    match has_node(rt.alloc(), text, words.node) {
+pub(crate) fn check_settings(alloc: Global, node: Node, text: &[u8]) -> Result<(), Finding>
+    ensures has { OnOk result (HasNode text.now (node_seen node)) }
+    ensures refused { IfErr result (λ why. IsUnchecked text.now (node_seen node) why) }
+{
+    match has_node(alloc, text, node) {
         Ok(true) => Ok(()),
-        Ok(false) => Err(End::Own(Finding::Service(ServiceFault::NoSuchNode))),
-        Err(ServiceFault::Settings) => Err(End::Own(why_refused(rt.alloc(), text)?)),
-        Err(fault) => Err(End::Own(Finding::Service(fault))),
+        Ok(false) => Err(Finding::Service(ServiceFault::NoSuchNode)),
+        Err(ServiceFault::Settings) => Err(why_refused(alloc, text)),
+        Err(fault) => Err(Finding::Service(fault)),
     }
 }
 
 /// Whether the settings that a text spells, and that a world takes, have a node.
-fn has_node(alloc: Global, text: &[u8], node: Node) -> Result<bool, ServiceFault> {
+fn has_node(alloc: Global, text: &[u8], node: Node) -> Result<bool, ServiceFault>
+    ensures told { IfOk result (λ has. TellsOfNode text.now (node_seen node) has) }
+    ensures refused { IfErr result (λ why. NoSettings text.now why) }
+{
     match read_living_settings(alloc, text) {
-        Ok(settings) => {
-            let taken = CheckedSettings::new(alloc, settings)?;
-            Ok(is_there(taken.settings(), node))
-        }
+        Ok(settings) => match CheckedSettings::new(alloc, settings) {
+            Ok(taken) => Ok(is_there(taken.settings(), node)),
+            Err(fault) => Err(ServiceFault::from(fault)),
+        },
         Err(SettingsFault::OutOfMemory) => Err(ServiceFault::OutOfMemory),
         Err(SettingsFault::Settings) => Err(ServiceFault::Settings),
     }
 }
 
 /// What is wrong in settings that are refused.
-fn why_refused(alloc: Global, text: &[u8]) -> Result<Finding, End<Finding>> {
-    match living_settings_fault(alloc, text)? {
-        Some(why) => Ok(Finding::Settings(why)),
-        None => Ok(Finding::Service(ServiceFault::Settings)),
+fn why_refused(alloc: Global, text: &[u8]) -> Finding
+    ensures { (spelled : List ℕ) (node : model.Node) → NoSettings spelled Settings → IsUnchecked spelled node result }
+{
+    match living_settings_fault(alloc, text) {
+        Ok(Some(why)) => Finding::Settings(why),
+        Ok(None) => Finding::Service(ServiceFault::Settings),
+        Err(refused) => Finding::OutOfMemory(refused),
     }
 }

@@ -2,7 +2,12 @@
 //! what it says goes to standard output, and each call is on disk before what it sent is said.
 #![tactic(auto)]
 
-ghost use Rattle.std.specs.Prelude.{◌≡◌, []};
+ghost use Rattle.std.specs.Prelude.{◌≡◌, ◌⊎◌, [], IfErr, OnOk};
+ghost use Rattle.std.specs.Option.{option_copied};
+ghost use Rattle.std.specs.Io.KnownBytes.{IsAtEnd};
+ghost use Rattle.node_process.specs.Ends.{EndsFor};
+ghost use Rattle.node_process.specs.Safe.{IsRun, IsRunDone, IsUnopened};
+ghost use Rattle.claimnode.specs.Served.{owner_of};
 
 mod checking;
 mod file;
@@ -11,18 +16,18 @@ mod joining;
 mod repair;
 mod standard;
 mod turning;
-mod undamaged;
 mod words;
 
 use crate::checking::check_settings;
-use crate::file::{Opened, open_log};
+use crate::file::{Purpose, take};
 use crate::finding::Finding;
 use crate::joining::join;
 use crate::repair::repair;
 use crate::standard::take_standard;
 use crate::turning::turn;
-use crate::words::{Words, words_of};
+use crate::words::{Task, Words, words_of};
 use command_line::{End, given_words, read_settings_file};
+use log_folder::{OpenedFile, front_of};
 use node_process::{Diskless, Host, Machine, Owner, Unserved, serve_all};
 use payer_book::HashKeys;
 use std::process::ExitCode;
@@ -34,88 +39,67 @@ fn main(rt: HostRuntime) -> ExitCode {
     }
 }
 
-/// Serves the node that the command line names, from its log.
+/// Does with a node what the command line asks for.
 fn run(rt: &HostRuntime) -> Result<(), End<Finding>> {
-    let alloc = rt.alloc();
     let _standard = take_standard(rt)?;
     let given = given_words(rt)?;
-    let words = words_of(alloc, given.as_slice())?;
+    let words = words_of(rt.alloc(), given.as_slice())?;
     let text = read_settings_file(rt, words.settings)?;
-    run_node(rt, &words, text.as_slice())
+    match run_node(rt, &words, text.as_slice()) {
+        Ok(()) => Ok(()),
+        Err(finding) => Err(End::Own(finding)),
+    }
 }
 
-/// Serves a node under settings from its log.
-fn run_node(rt: &HostRuntime, words: &Words<'_>, text: &[u8]) -> Result<(), End<Finding>> {
-    check_settings(rt, words, text)?;
-    match words.log {
-        Some(log) => run_logged(rt, words, log, text),
-        None => {
+/// Does with a node under settings what its words ask for.
+fn run_node(rt: &HostRuntime, words: &Words<'_>, text: &[u8]) -> Result<(), Finding> {
+    check_settings(rt.alloc(), words.node, text)?;
+    match words.task() {
+        Task::ServeDiskless => {
             let mut host = Diskless::new(rt.stdin(), rt.stdout());
-            serve(rt, &owner_of(words, text, None), &mut host)
+            Ok(serve(rt, words, text, None, &mut host)?)
         }
+        Task::Serve(log) => serve_log(rt, words, log, text),
+        Task::Repair(log) => repair(rt, words, log, text),
+        Task::Turn(log) => turn(rt, words, log, text),
+        Task::Join(log, out) => join(rt, words, log, text, out),
     }
 }
 
-/// Serves a node from its log, or mends, closes or joins that.
-fn run_logged(
-    rt: &HostRuntime,
-    words: &Words<'_>,
-    log: &str,
-    text: &[u8],
-) -> Result<(), End<Finding>> {
-    if words.repair {
-        return repair(rt, words, log, text);
-    }
-    if words.turn {
-        return turn(rt, words, log, text);
-    }
-    if let Some(out) = words.join {
-        return join(rt, words, log, text, out);
-    }
-    let Opened { file, rest, front } = open_log(rt, log)?;
-    let mut host = Host::new(rt, log, file, front, rt.stdin(), rt.stdout());
-    serve(rt, &owner_of(words, text, rest.as_deref()), &mut host)
+/// Serves a node from its log.
+fn serve_log(rt: &HostRuntime, words: &Words<'_>, log: &str, text: &[u8]) -> Result<(), Finding> {
+    let disk = take(rt, log, Purpose::Serve)?;
+    let mut file = OpenedFile::new(disk.into_file()?);
+    let front = front_of(rt.alloc(), &mut file)?;
+    let (input, output) = (rt.stdin(), rt.stdout());
+    let mut host = Host::new(rt, log, file.into_file(), front.size, input, output);
+    Ok(serve(rt, words, text, front.rest.as_deref(), &mut host)?)
 }
 
-/// Serves a node over a system, of which nothing was asked yet, until its input ends.
+/// Serves the node that the command line names, whose log begins with this rest, where it has one, over a system of which nothing
+/// was asked yet, until its input ends. The node that it leaves in memory goes.
 fn serve<M: Machine>(
     rt: &HostRuntime,
-    owner: &Owner<'_>,
-    machine: &mut M,
-) -> Result<(), End<Finding>>
-    requires { M.acts machine.old ≡ [] }
-{
-    match serve_alone(rt, owner, machine) {
-        Ok(()) => Ok(()),
-        Err(Unserved::OutOfMemory) => Err(End::OutOfMemory),
-        Err(Unserved::Refused(fault)) => Err(End::Own(Finding::Service(fault))),
-        Err(Unserved::FewCalls(calls)) => Err(End::Own(Finding::FewCalls(calls))),
-        Err(Unserved::LongLine) => Err(End::Own(Finding::LongLine)),
-        Err(Unserved::TooManyTurns) => Err(End::Own(Finding::TooManyTurns)),
-        Err(Unserved::Io(error)) => Err(End::Io(error)),
-    }
-}
-
-/// The same; the node that it leaves in memory goes.
-fn serve_alone<M: Machine>(
-    rt: &HostRuntime,
-    owner: &Owner<'_>,
+    words: &Words<'_>,
+    text: &[u8],
+    rest: Option<&[u8]>,
     machine: &mut M,
 ) -> Result<(), Unserved>
     requires { M.acts machine.old ≡ [] }
+    ensures each { IsUnopened (M.acts machine.new)
+        ⊎ IsRun (owner_of words.now text.now (option_copied rest.entry)) (M.acts machine.new) }
+    ensures done { OnOk result (IsRunDone (owner_of words.now text.now (option_copied rest.entry)) (M.acts machine.new)) }
+    ensures ended { OnOk result (IsAtEnd (M.coming machine.new)) }
+    ensures why { IfErr result (EndsFor (owner_of words.now text.now (option_copied rest.entry)) (M.acts machine.new)) }
 {
-    let mut memory = None;
-    serve_all(rt.alloc(), &hash_keys(rt), owner, machine, &mut memory)
-}
-
-/// Whose process it is: of the node that the command line names, whose log begins with this rest, where it has one.
-fn owner_of<'a>(words: &Words<'_>, text: &'a [u8], rest: Option<&'a [u8]>) -> Owner<'a> {
-    Owner {
+    let owner = Owner {
         settings: text,
         node: words.node,
         rest,
         least: words.least,
-    }
+    };
+    let mut memory = None;
+    serve_all(rt.alloc(), &hash_keys(rt), &owner, machine, &mut memory)
 }
 
 /// What the maps of a payer's book hash with: keys that nobody knows. Where the system has no random bytes to give, the

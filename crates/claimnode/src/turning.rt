@@ -3,7 +3,6 @@
 use crate::file::{Purpose, take};
 use crate::finding::Finding;
 use crate::words::Words;
-use command_line::End;
 use log_folder::{CloseFault, Closing, close_log};
 use log_turning::closed_name;
 
@@ -17,34 +16,17 @@ pub(crate) fn turn(
     words: &Words<'_>,
     log: &str,
     text: &[u8],
-) -> Result<(), End<Finding>> {
-    let alloc = rt.alloc();
+) -> Result<(), Finding> {
     let mut disk = take(rt, log, Purpose::Close)?;
-    match close_log(alloc, text, words.node, words.at_size, &mut disk) {
+    match close_log(rt.alloc(), text, words.node, words.at_size, &mut disk) {
         Ok(Closing::Done(calls)) => {
-            let closed = closed_name(alloc, log, calls)?;
-            println!(rt; "closed {closed}, with {calls} calls so far")?;
-            Ok(())
+            let closed = closed_name(rt.alloc(), log, calls)?;
+            Ok(println!(rt; "closed {closed}, with {calls} calls so far")?)
         }
-        Ok(Closing::Small(size)) => {
-            println!(rt; "not closed: it has {size} bytes")?;
-            Ok(())
+        Ok(Closing::Small(size)) => Ok(println!(rt; "not closed: it has {size} bytes")?),
+        Err(CloseFault::Unlinked(calls, error)) => {
+            Err(Finding::File(closed_name(rt.alloc(), log, calls)?, error))
         }
-        Err(fault) => Err(unclosed(rt, log, fault)?),
-    }
-}
-
-/// Why a log was not closed.
-fn unclosed(rt: &HostRuntime, log: &str, fault: CloseFault) -> Result<End<Finding>, End<Finding>> {
-    let alloc = rt.alloc();
-    match fault {
-        CloseFault::OutOfMemory => Ok(End::OutOfMemory),
-        CloseFault::Io(error) => Ok(End::Io(error)),
-        CloseFault::Unlinked(calls, error) => {
-            let closed = closed_name(alloc, log, calls)?;
-            Ok(End::of_file(alloc, closed.as_str(), error))
-        }
-        CloseFault::Refused(fault) => Ok(End::Own(Finding::Service(fault))),
-        CloseFault::NoRecord => Ok(End::Own(Finding::NoRecord)),
+        Err(fault) => Err(Finding::Unclosed(fault)),
     }
 }

@@ -1,6 +1,8 @@
 //! The program `claimswitch`: one word, standard input and standard output.
 #![tactic(auto)]
 
+ghost use Rattle.claimswitch.specs.declared.End.TheVariants as end;
+
 use claims_read::read_claims_keyed;
 use payer_book::HashKeys;
 use program_io::{
@@ -49,12 +51,21 @@ impl End {
 }
 
 impl From<ProgramFault> for End {
+    ghost use Rattle.std.specs.Prelude.{◌≡◌};
+    ghost use Rattle.program_io.specs.declared.words.Stop.TheVariants as stop;
+
+    ghost from_gives = { λ fault e. e ≡ end.Stop (stop.Fault fault) };
+
     fn from(fault: ProgramFault) -> End {
         End::Stop(Stop::Fault(fault))
     }
 }
 
 impl From<RunFault> for End {
+    ghost use Rattle.std.specs.Prelude.{◌≡◌};
+
+    ghost from_gives = { λ fault e. e ≡ end.Run fault };
+
     fn from(fault: RunFault) -> End {
         End::Run(fault)
     }
@@ -77,6 +88,10 @@ struct Stopped {
 }
 
 impl From<Stop> for Stopped {
+    ghost use Rattle.std.specs.Prelude.{◌≡◌, None};
+
+    ghost from_gives = { λ fault stopped. stopped ≡ record { end = end.Stop fault; why = None } };
+
     fn from(stop: Stop) -> Stopped {
         Stopped {
             end: End::Stop(stop),

@@ -3,7 +3,7 @@ use Rattle.std.proofs.Common.{◌≡◌, ℕ, zero, suc, ◌+◌, ◌-◌, ◌<�
 use Rattle.std.proofs.lemmas.Bool.Decides.{nat_tests}
 use Rattle.std.proofs.lemmas.List.{take-append-le}
 use Rattle.std.specs.List.{AllByRecursion}
-use Rattle.kept_records.specs.Fields.{u64_at}
+use Rattle.codec.specs.Fields.{u64_at}
 use Rattle.kept_logs.specs.Stamps.{Stamped, stamped_text}
 use Rattle.kept_logs.specs.declared.fault.LogFault.{LogFault}
 use Rattle.kept_logs.specs.Frames.{frame_text, frame_at}

@@ -6,11 +6,10 @@ use Rattle.std.proofs.lemmas.Bool.Decides.{nat_tests}
 use Rattle.std.proofs.lemmas.List.{take_at, drop_at, take-append-le}
 use Rattle.std.specs.Int.{w64, to_be_bytes}
 use Rattle.sha2.specs.Sha256.{sha256, digest_bytes}
-use Rattle.kept_records.specs.Fields.{u64_at}
-use Rattle.kept_records.proofs.FieldsBack.{u64_at-put}
+use Rattle.codec.specs.Fields.{u64_at}
+use Rattle.codec.proofs.FieldsBack.{not_less, u64_at-put}
 use Rattle.kept_logs.specs.Frames.{largest, most_body, is_size, no_record, first_check, second_check, check_of, frame_text, met, Framed, CutOff, behind_length, sized_frame, body_at, frame_at}
 use Rattle.kept_logs.proofs.Meeting.{met-append, met-short}
-use Rattle.kept_logs.proofs.FieldsBack.{not_less}
 
 first_length : (number : ℕ) (body : List ℕ) → length (first_check number body) ≡ 8
 unfolding first_check sha256 digest_bytes

@@ -1,16 +1,14 @@
 pub mod Meeting
 pub mod FieldsBack
+pub mod Formats
 pub mod StampsBack
 pub mod FramesBack
 pub mod CallsBack
 pub mod LogsBack
 pub mod RestsBack
 pub mod Loops
-pub mod ReferenceLoops
 pub mod ReadSoFar
 pub mod Passing
-pub mod FieldsOnly
-pub mod FitsOnly
 pub mod StampsOnly
 pub mod LogsOnly
 pub mod Torn

@@ -6,28 +6,30 @@ use Rattle.std.proofs.lemmas.List.{take_at, take_all, take-append-le}
 use Rattle.claim_model.specs.Node.{Node, Pharmacy, Switch, Payer}
 use Rattle.kept_logs.specs.Stamps.{Stamped, KeptLog, with_record, stamped_text}
 use Rattle.kept_logs.specs.declared.fault.LogFault.TheVariants.{Short}
-use Rattle.kept_logs.specs.Fields.{bytes_at, node_text, node_at}
+use Rattle.codec.specs.Fields.{bytes_at}
+use Rattle.codec.proofs.FieldsBack.{bytes_at-put}
+use Rattle.kept_logs.specs.Fields.{node_codec}
 use Rattle.kept_logs.specs.Digests.{version_of}
 use Rattle.kept_logs.specs.Frames.{check_of, frame_text, Whole, met}
 use Rattle.kept_logs.specs.Logs.{owner_text, head_text, calls_text, kept_text, head_in, calls_in, kept_in, KeptAs}
 use Rattle.kept_logs.specs.Fits.{FitsNode, FitsKept}
 use Rattle.kept_logs.specs.Cuts.{whole_within, first_calls, calls_within, log_within, ReadsBack}
 use Rattle.kept_logs.proofs.Meeting.{met-append, met-short, same_byte}
-use Rattle.kept_logs.proofs.FieldsBack.{bytes_at-put, node_at-put}
+use Rattle.kept_logs.proofs.Formats.{node_is, node_fits}
 use Rattle.kept_logs.proofs.FramesBack.{check_length, take_over, taken_at_most}
 use Rattle.kept_logs.proofs.CallsBack.{ReadsCalls, reads_calls, calls_text-more, calls_text-split, all_within}
 
 -- ---- the head
 
-pub node_length : (node : Node) → length (node_text node) ≡ 3
-unfolding node_text
+pub node_length : (node : Node) → length (node_codec.text node) ≡ 3
+unfolding node_codec
 node_length (Pharmacy n) = refl
 node_length (Switch n) = refl
 node_length (Payer n) = refl
 
 owner_length : (digest : List ℕ) (node : Node) → length digest ≡ 32 → length (owner_text digest node) ≡ 35
 unfolding owner_text
-owner_length digest node h = omega (arith, length-append (node_text node) digest, node_length node, h)
+owner_length digest node h = omega (arith, length-append (node_codec.text node) digest, node_length node, h)
 
 -- a version, and the digest after it
 one_version : (digest : List ℕ) → length digest ≡ 33 → length (take 1 digest) ≡ 1
@@ -44,9 +46,9 @@ head_length digest node h =
     let owner : List ℕ = owner_text (drop 1 digest) node in
     omega (arith, length-append (take 1 digest) (owner ++ check_of (version_of digest) 0 owner), one_version digest h, length-append owner (check_of (version_of digest) 0 owner), owner_length (drop 1 digest) node (behind_version digest h), check_length (version_of digest) 0 owner)
 
-node_at_owner : (digest : List ℕ) (node : Node) → FitsNode node → node_at (owner_text digest node) ≡ Some (node, digest)
+node_at_owner : (digest : List ℕ) (node : Node) → FitsNode node → node_codec.at (owner_text digest node) ≡ Some (node, digest)
 unfolding owner_text
-node_at_owner digest node fits = node_at-put node digest fits
+node_at_owner digest node fits = node_is.back node digest (node_fits node fits)
 
 met-self : (xs : List ℕ) → met xs xs ≡ Whole []
 met-self xs = ap (met xs) (sym (append-nil xs)) ∙ met-append xs []

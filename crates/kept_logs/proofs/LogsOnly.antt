@@ -4,22 +4,23 @@ use Rattle.std.proofs.lemmas.Bool.Decides.{nat_tests}
 use Rattle.std.proofs.lemmas.List.{take_at, take-append-drop, length-take-le}
 use Rattle.std.specs.Int.{w64, to_be_bytes}
 use Rattle.claim_model.specs.Node.{Node}
-use Rattle.kept_records.specs.Fields.{u64_at}
-use Rattle.kept_records.proofs.FieldsOnly.{AreBytes, drop_bytes, take_bytes, IsTaken, u64_at_taken}
+use Rattle.codec.specs.Fields.{bytes_at, u64_at}
+use Rattle.codec.specs.Laws.{AreBytes, IsTaken}
+use Rattle.codec.proofs.FieldsOnly.{drop_bytes, take_bytes, u64_at_taken}
+use Rattle.codec.proofs.CodecLaws.{both_taken, exactly_is}
 use Rattle.kept_logs.specs.Stamps.{Stamped, stamped_text, stamped_in}
 use Rattle.kept_logs.specs.declared.fault.LogFault.{LogFault}
 use Rattle.kept_logs.specs.declared.fault.LogFault.TheVariants as fault
 use Rattle.kept_logs.specs.Faults.{◌>>=◌, some_or}
-use Rattle.kept_logs.specs.Fields.{bytes_at, node_text, node_at}
+use Rattle.kept_logs.specs.Fields.{node_codec}
 use Rattle.kept_logs.specs.Digests.{version_of}
 use Rattle.kept_logs.specs.Frames.{largest, is_size, is_zeros, no_record, check_of, frame_text, Met, Whole, Torn, Differs, met, Frame, Framed, CutOff, Damaged, checked, behind_length, sized_frame, body_at, frame_at}
 use Rattle.kept_logs.specs.Logs.{owner_text, head_text, calls_text, kept_text, expected, head_in, read_record, framed_record, record_in, behind, and_more, calls_in, KeptReading, kept_in, Reading, alone, calls_alone, log_in}
 use Rattle.std.specs.List.{AllByRecursion}
 use Rattle.kept_logs.specs.Fits.{FitsNode, FitsStamped}
 use Rattle.kept_logs.specs.Cuts.{IsLogOf, IsOfLog}
-use Rattle.kept_logs.proofs.FitsOnly.{node_fits}
+use Rattle.kept_logs.proofs.Formats.{node_is, fits_node}
 use Rattle.kept_logs.proofs.Meeting.{met-whole}
-use Rattle.kept_logs.proofs.FieldsOnly.{both_taken, bytes_at_taken, node_at_taken}
 use Rattle.kept_logs.proofs.StampsOnly.{stamped_in_taken, stamped_fits}
 use Rattle.kept_logs.proofs.LogsBack.{node_length}
 
@@ -236,7 +237,7 @@ abbrev after_node : List ℕ → List ℕ → Node × List ℕ → Head
 after_node digest rest node = expected fault.OtherSettings (met digest node.1) >>= λ own. Ok (node.0, rest)
 
 abbrev after_sum : List ℕ → List ℕ → List ℕ → Head
-after_sum digest owner rest = some_or fault.NoNode (node_at owner) >>= after_node digest rest
+after_sum digest owner rest = some_or fault.NoNode (node_codec.at owner) >>= after_node digest rest
 
 abbrev after_owner : ℕ → List ℕ → List ℕ × List ℕ → Head
 after_owner version digest owner = expected fault.DamagedHead (met (check_of version 0 owner.0) owner.1) >>= after_sum digest owner.0
@@ -252,11 +253,11 @@ nothing [] h = refl
 nothing (x ∷ xs) h = absurd (omega arith)
 
 -- an owner of this many bytes has the digest and nothing after it
-owner_is : (digest owner : List ℕ) (node : Node) (left own : List ℕ) → length digest ≡ 32 → length owner ≡ 35 → owner ≡ node_text node ++ left → left ≡ digest ++ own → owner ≡ owner_text digest node
+owner_is : (digest owner : List ℕ) (node : Node) (left own : List ℕ) → length digest ≡ 32 → length owner ≡ 35 → owner ≡ node_codec.text node ++ left → left ≡ digest ++ own → owner ≡ owner_text digest node
 unfolding owner_text
 owner_is digest owner node left own d o first second =
-    let none : own ≡ [] = nothing own (omega (arith, d, o, ap length first, length-append (node_text node) left, ap length second, length-append digest own, node_length node)) in
-    first ∙ ap (λ t. node_text node ++ t) (second ∙ ap (λ t. digest ++ t) none ∙ append-nil digest)
+    let none : own ≡ [] = nothing own (omega (arith, d, o, ap length first, length-append (node_codec.text node) left, ap length second, length-append digest own, node_length node)) in
+    first ∙ ap (λ t. node_codec.text node ++ t) (second ∙ ap (λ t. digest ++ t) none ∙ append-nil digest)
 
 head_text_is : (version : ℕ) (digest bytes named known owner sum rest : List ℕ) (node : Node) → bytes ≡ codes "PL" ++ named → named ≡ version ∷ known → known ≡ owner ++ sum → sum ≡ check_of version 0 owner ++ rest → owner ≡ owner_text digest node
     → bytes ≡ head_text (version ∷ digest) node ++ rest
@@ -282,19 +283,19 @@ head_in_taken (version ∷ digest) bytes node rest d are h =
     let known = result_then (expected fault.Version (met (version ∷ []) named.0)) (after_version version digest) end named.2 in
     let owner = result_then (some_or fault.Short (bytes_at 35 known.0)) (after_owner version digest) end known.2 in
     let sum = result_then (expected fault.DamagedHead (met (check_of version 0 owner.0.0) owner.0.1)) (after_sum digest owner.0.0) end owner.2 in
-    let found = result_then (some_or fault.NoNode (node_at owner.0.0)) (after_node digest sum.0) end sum.2 in
+    let found = result_then (some_or fault.NoNode (node_codec.at owner.0.0)) (after_node digest sum.0) end sum.2 in
     let own = result_then (expected fault.OtherSettings (met digest found.0.1)) (λ (o : List ℕ). Ok (found.0.0, sum.0)) end found.2 in
     let first : IsTaken bytes (codes "PL") named.0 = whole_taken (codes "PL") bytes named.0 are (expected_whole fault.NotALog (met (codes "PL") bytes) named.0 named.1) in
     let second : IsTaken named.0 (version ∷ []) known.0 = whole_taken (version ∷ []) named.0 known.0 first.rest_bytes (expected_whole fault.Version (met (version ∷ []) named.0) known.0 known.1) in
-    let third = bytes_at_taken 35 known.0 owner.0.0 owner.0.1 second.rest_bytes (some_of fault.Short (bytes_at 35 known.0) owner.0 owner.1) in
+    let third = (exactly_is 35).only known.0 owner.0.0 owner.0.1 second.rest_bytes (some_of fault.Short (bytes_at 35 known.0) owner.0 owner.1) in
     let fourth : IsTaken owner.0.1 (check_of version 0 owner.0.0) sum.0 = whole_taken (check_of version 0 owner.0.0) owner.0.1 sum.0 third.0.rest_bytes (expected_whole fault.DamagedHead (met (check_of version 0 owner.0.0) owner.0.1) sum.0 sum.1) in
     let owner_bytes : AreBytes owner.0.0 = front_are owner.0.0 owner.0.1 (subst AreBytes third.0.all second.rest_bytes) in
-    let fifth : IsTaken owner.0.0 (node_text found.0.0) found.0.1 = node_at_taken owner.0.0 found.0.0 found.0.1 owner_bytes (some_of fault.NoNode (node_at owner.0.0) found.0 found.1) in
+    let fifth = node_is.only owner.0.0 found.0.0 found.0.1 owner_bytes (some_of fault.NoNode (node_codec.at owner.0.0) found.0 found.1) in
     let sixth : found.0.1 ≡ digest ++ own.0 = met-whole digest found.0.1 own.0 (expected_whole fault.OtherSettings (met digest found.0.1) own.0 own.1) in
     let parts = same_head found.0.0 node sum.0 rest own.2 in
-    let text : bytes ≡ head_text (version ∷ digest) found.0.0 ++ sum.0 = head_text_is version digest bytes named.0 known.0 owner.0.0 owner.0.1 sum.0 found.0.0 first.all second.all third.0.all fourth.all (owner_is digest owner.0.0 found.0.0 found.0.1 own.0 (omega (arith, d)) third.1 fifth.all sixth) in
+    let text : bytes ≡ head_text (version ∷ digest) found.0.0 ++ sum.0 = head_text_is version digest bytes named.0 known.0 owner.0.0 owner.0.1 sum.0 found.0.0 first.all second.all third.0.all fourth.all (owner_is digest owner.0.0 found.0.0 found.0.1 own.0 (omega (arith, d)) third.1 fifth.0.all sixth) in
     let made : IsTaken bytes (head_text (version ∷ digest) found.0.0) sum.0 = record { all = text; rest_bytes = fourth.rest_bytes } in
-    (subst (λ r. IsTaken bytes (head_text (version ∷ digest) node) r) parts.1 (subst (λ (n : Node). IsTaken bytes (head_text (version ∷ digest) n) sum.0) parts.0 made), subst FitsNode parts.0 (node_fits owner.0.0 found.0.0 found.0.1 owner_bytes (some_of fault.NoNode (node_at owner.0.0) found.0 found.1)))
+    (subst (λ r. IsTaken bytes (head_text (version ∷ digest) node) r) parts.1 (subst (λ (n : Node). IsTaken bytes (head_text (version ∷ digest) n) sum.0) parts.0 made), subst FitsNode parts.0 (fits_node found.0.0 fifth.1))
 
 -- ---- the log
 

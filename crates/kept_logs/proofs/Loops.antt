@@ -1,35 +1,15 @@
--- Loops over packets and records: what is done, and what is left.
+-- Loops over records: what is done, and what is left.
 use Rattle.std.proofs.Common.{◌≡◌, ◌≢◌, ℕ, ◌+◌, ◌-◌, ◌<◌, ◌≤◌, List, [], ◌∷◌, ◌++◌, length, Option, Some, None, option_map, Result, Ok, Err, IfErr, IsErrAnd, refl, ap, ◌∙◌, sym, arith, append_assoc, append-nil}
 use Rattle.std.specs.List.{AllByRecursion}
-use Rattle.claim_model.specs.Node.{Node, Sent}
+use Rattle.claim_model.specs.Node.{Node}
 use Rattle.kept_logs.specs.Stamps.{Stamped, KeptLog, stamped_text}
 use Rattle.kept_logs.specs.declared.fault.LogFault.{LogFault}
 use Rattle.kept_logs.specs.declared.fault.LogFault.TheVariants.{OutOfMemory}
-use Rattle.kept_logs.specs.Fits.{FitsSent, FitsStamped}
-use Rattle.kept_logs.specs.Records.{sent_text, sent_at, sents_text, sents_in}
-use Rattle.kept_records.specs.Options.{◌>>=◌}
+use Rattle.kept_logs.specs.Fits.{FitsStamped}
 use Rattle.kept_logs.specs.Digests.{version_of}
 use Rattle.kept_logs.specs.Frames.{frame_text}
 use Rattle.kept_logs.specs.Logs.{head_text, calls_text, kept_text, record_in, behind, calls_in}
-use Rattle.kept_records.proofs.EntriesRead.{one_less, none_left}
-
--- ---- packets that are put
-
--- so far and then what is left is all, and all fit if those that are left do
-pub record PutsSents (before now : List ℕ) (all left : List Sent) : Type 0 where
-  pub text : now ++ sents_text left ≡ before ++ sents_text all
-  pub fits : AllByRecursion FitsSent left → AllByRecursion FitsSent all
-
-pub sents_go_on : (before now longer : List ℕ) (all left : List Sent) (one : Sent) (rest : List Sent) → left ≡ one ∷ rest → longer ≡ now ++ sent_text one → FitsSent one → PutsSents before now all left → PutsSents before longer all rest
-unfolding sents_text
-sents_go_on before now longer all left one rest is put fits so_far = record {
-  text = ap (λ t. t ++ sents_text rest) put ∙ append_assoc now (sent_text one) (sents_text rest) ∙ ap (λ xs. now ++ sents_text xs) (sym is) ∙ so_far.text;
-  fits = λ f. so_far.fits (rw is (fits, f));
-}
-
-pub sents_end : (before now : List ℕ) (all left : List Sent) → left ≡ [] → PutsSents before now all left → (now ≡ before ++ sents_text all) × AllByRecursion FitsSent all
-unfolding sents_text
-sents_end before now all left none so_far = (sym (append-nil now) ∙ ap (λ xs. now ++ sents_text xs) (sym none) ∙ so_far.text, so_far.fits (rw none tt))
+use Rattle.codec.proofs.Loops.{one_less, none_left}
 
 -- ---- records that are put
 
@@ -48,35 +28,6 @@ calls_go_on version before now longer all number left one rest is put fits so_fa
 pub calls_end : (version : ℕ) (before now : List ℕ) (all : List Stamped) (number : ℕ) (left : List Stamped) → left ≡ [] → PutsCalls version before now all number left → (now ≡ before ++ calls_text version 1 all) × AllByRecursion FitsStamped all
 unfolding calls_text
 calls_end version before now all number left none so_far = (sym (append-nil now) ∙ ap (λ xs. now ++ calls_text version number xs) (sym none) ∙ so_far.text, so_far.fits (rw none tt))
-
--- ---- packets that are taken
-
--- what was taken and then what is left is all
-abbrev pub and_these : List Sent → Option (List Sent) → Option (List Sent)
-and_these done o = option_map (λ more. done ++ more) o
-
-pub sents_taken : (count i : ℕ) (done : List Sent) (bytes : List ℕ) (one : Sent) (rest : List ℕ) → i < count → sent_at bytes ≡ Some (one, rest)
-    → and_these done (sents_in (count - i) bytes) ≡ and_these (done ++ one ∷ []) (sents_in (count - (i + 1)) rest)
-unfolding sents_in
-sents_taken count i done bytes one rest h e = rw (one_less count i h, e) (joined (sents_in (count - (i + 1)) rest))
-  where
-    joined : (o : Option (List Sent)) → and_these done (o >>= λ more. Some (one ∷ more)) ≡ and_these (done ++ one ∷ []) o
-    joined None = refl
-    joined (Some more) = ap Some (sym (append_assoc done (one ∷ []) more))
-
-pub sents_stop : (count i : ℕ) (done : List Sent) (bytes : List ℕ) → i < count → sent_at bytes ≡ None → and_these done (sents_in (count - i) bytes) ≡ None
-unfolding sents_in
-sents_stop count i done bytes h e = rw (one_less count i h, e) refl
-
-pub sents_all : (count i : ℕ) (done : List Sent) (bytes : List ℕ) → count ≤ i → length bytes ≡ 0 → and_these done (sents_in (count - i) bytes) ≡ Some done
-unfolding sents_in
-sents_all count i done [] h e = rw (none_left count i h) (ap Some (append-nil done))
-sents_all count i done (x ∷ xs) h e = absurd (omega arith)
-
-pub sents_over : (count i : ℕ) (done : List Sent) (bytes : List ℕ) → count ≤ i → 0 < length bytes → and_these done (sents_in (count - i) bytes) ≡ None
-unfolding sents_in
-sents_over count i done [] h e = absurd (omega arith)
-sents_over count i done (x ∷ xs) h e = rw (none_left count i h) refl
 
 -- ---- records that are taken
 

@@ -5,8 +5,9 @@ use Rattle.std.proofs.lemmas.Bool.Decides.{nat_tests}
 use Rattle.std.proofs.lemmas.List.{take-append-drop, length-take-le, length-replicate}
 use Rattle.std.proofs.lemmas.Nat.{be_bytes_8}
 use Rattle.std.specs.Int.{w64, to_be_bytes, from_be_bytes}
-use Rattle.kept_records.specs.Fields.{u64_at}
-use Rattle.kept_records.proofs.FieldsOnly.{AreBytes, u64_at_taken}
+use Rattle.codec.specs.Fields.{u64_at}
+use Rattle.codec.specs.Laws.{AreBytes}
+use Rattle.codec.proofs.FieldsOnly.{u64_at_taken}
 use Rattle.kept_logs.specs.Frames.{largest, is_size, is_zeros, no_record, check_of, frame_text, Met, Whole, Torn, Differs, met, CutOff, Damaged, checked, behind_length, sized_frame, body_at, frame_at}
 use Rattle.kept_logs.specs.Cuts.{Begins}
 use Rattle.kept_logs.proofs.Meeting.{IsTorn, met-torn, met-whole}

@@ -1,77 +1,36 @@
--- Calls in a log: how they are spelled, and what stands at the front of bytes.
-use Rattle.std.specs.Prelude.{ℕ, zero, suc, List, [], ◌∷◌, ◌++◌, Option, Some, None, option_map}
-use Rattle.std.specs.Int.{w32, to_be_bytes}
+-- Calls in a log.
+use Rattle.std.specs.Prelude.{ℕ, zero, suc, List, Option, Some, None}
 use Rattle.claim_model.specs.Node.{Call, Submit, Tick, Take, Stop, Start, Reprice, Adjudicate}
 use Rattle.claim_model.specs.Words.{SetPrice, SetTerms}
-use Rattle.kept_records.specs.Fields.{u8_at, u32_at}
-use Rattle.kept_records.specs.Options.{◌>>=◌}
-use Rattle.kept_logs.specs.Fields.{text_of, text_at, node_text, node_at}
+use Rattle.codec.specs.Codecs.{Codec, u32, text, both, empty, Spelled, spelled, made_at, tagged}
+use Rattle.kept_logs.specs.Fields.{node_codec}
 
--- a call after its kind; 7 is the kind of a stamp, and no call's
-unfoldable pub call_text : Call → List ℕ
-call_text (Submit text) = 0 ∷ text_of text
-call_text Tick = 1 ∷ []
-call_text (Take from bytes) = 2 ∷ (node_text from ++ text_of bytes)
-call_text Stop = 3 ∷ []
-call_text Start = 4 ∷ []
-call_text (Reprice (SetPrice product None)) = 5 ∷ text_of product
-call_text (Reprice (SetPrice product (Some price))) = 6 ∷ (text_of product ++ to_be_bytes w32 price)
-call_text (Adjudicate from bytes advice) = 8 ∷ (node_text from ++ (text_of bytes ++ text_of advice))
-call_text (Reprice (SetTerms fee copay)) = 9 ∷ (to_be_bytes w32 fee ++ to_be_bytes w32 copay)
+-- how a call is spelled; 7 is the kind of a stamp, and no call's
+abbrev pub call_spelled : Call → Spelled
+call_spelled (Submit request) = spelled 0 text request
+call_spelled Tick = spelled 1 empty tt
+call_spelled (Take from bytes) = spelled 2 (both node_codec text) (from, bytes)
+call_spelled Stop = spelled 3 empty tt
+call_spelled Start = spelled 4 empty tt
+call_spelled (Reprice (SetPrice product None)) = spelled 5 text product
+call_spelled (Reprice (SetPrice product (Some price))) = spelled 6 (both text u32) (product, price)
+call_spelled (Adjudicate from bytes advice) = spelled 8 (both node_codec (both text text)) (from, (bytes, advice))
+call_spelled (Reprice (SetTerms fee copay)) = spelled 9 (both u32 u32) (fee, copay)
 
--- a submission
-unfoldable pub submit_at : List ℕ → Option (Call × List ℕ)
-submit_at bytes = option_map (λ text. (Submit text.0, text.1)) (text_at bytes)
-
--- the taking of a packet
-unfoldable pub take_at : List ℕ → Option (Call × List ℕ)
-take_at bytes = do
-  from ← node_at bytes
-  packet ← text_at from.1
-  Some (Take from.0 packet.0, packet.1)
-
--- the taking of a packet with the advice of a payer's own system
-unfoldable pub adjudicate_at : List ℕ → Option (Call × List ℕ)
-adjudicate_at bytes = do
-  from ← node_at bytes
-  packet ← text_at from.1
-  advice ← text_at packet.1
-  Some (Adjudicate from.0 packet.0 advice.0, advice.1)
-
--- a product that is taken off a plan
-unfoldable pub unplan_at : List ℕ → Option (Call × List ℕ)
-unplan_at bytes = option_map (λ product. (Reprice (SetPrice product.0 None), product.1)) (text_at bytes)
-
--- a product and its price
-unfoldable pub plan_at : List ℕ → Option (Call × List ℕ)
-plan_at bytes = do
-  product ← text_at bytes
-  price ← u32_at product.1
-  Some (Reprice (SetPrice product.0 (Some price.0)), price.1)
-
--- a fee and a copay
-unfoldable pub terms_at : List ℕ → Option (Call × List ℕ)
-terms_at bytes = do
-  fee ← u32_at bytes
-  copay ← u32_at fee.1
-  Some (Reprice (SetTerms fee.0 copay.0), copay.1)
-
--- the call of this kind
+-- the call of this kind at the front, and what follows it; None where it is cut off or there is no such kind
 abbrev pub call_of : ℕ → List ℕ → Option (Call × List ℕ)
-call_of zero rest = submit_at rest
-call_of (suc zero) rest = Some (Tick, rest)
-call_of (suc (suc zero)) rest = take_at rest
-call_of (suc (suc (suc zero))) rest = Some (Stop, rest)
-call_of (suc (suc (suc (suc zero)))) rest = Some (Start, rest)
-call_of (suc (suc (suc (suc (suc zero))))) rest = unplan_at rest
-call_of (suc (suc (suc (suc (suc (suc zero)))))) rest = plan_at rest
-call_of (suc (suc (suc (suc (suc (suc (suc zero))))))) rest = None
-call_of (suc (suc (suc (suc (suc (suc (suc (suc zero)))))))) rest = adjudicate_at rest
-call_of (suc (suc (suc (suc (suc (suc (suc (suc (suc zero))))))))) rest = terms_at rest
-call_of (suc (suc (suc (suc (suc (suc (suc (suc (suc (suc kind)))))))))) rest = None
+call_of zero = made_at text Submit
+call_of (suc zero) = made_at empty (λ u. Tick)
+call_of (suc (suc zero)) = made_at (both node_codec text) (λ p. Take p.0 p.1)
+call_of (suc (suc (suc zero))) = made_at empty (λ u. Stop)
+call_of (suc (suc (suc (suc zero)))) = made_at empty (λ u. Start)
+call_of (suc (suc (suc (suc (suc zero))))) = made_at text (λ product. Reprice (SetPrice product None))
+call_of (suc (suc (suc (suc (suc (suc zero)))))) = made_at (both text u32) (λ p. Reprice (SetPrice p.0 (Some p.1)))
+call_of (suc (suc (suc (suc (suc (suc (suc zero))))))) = λ bytes. None
+call_of (suc (suc (suc (suc (suc (suc (suc (suc zero)))))))) = made_at (both node_codec (both text text)) (λ p. Adjudicate p.0 p.1.0 p.1.1)
+call_of (suc (suc (suc (suc (suc (suc (suc (suc (suc zero))))))))) = made_at (both u32 u32) (λ p. Reprice (SetTerms p.0 p.1))
+call_of (suc (suc (suc (suc (suc (suc (suc (suc (suc (suc number)))))))))) = λ bytes. None
 
--- a call at the front, and what follows it; None where it is cut off or of no kind that there is
-unfoldable pub call_at : List ℕ → Option (Call × List ℕ)
-call_at bytes = do
-  kind ← u8_at bytes
-  call_of kind.0 kind.1
+-- a call after its kind
+unfoldable pub call_codec : Codec Call
+call_codec = tagged call_spelled call_of

@@ -4,7 +4,7 @@ use Rattle.std.specs.List.{list_all}
 use Rattle.std.specs.Int.{w64, to_be_bytes}
 use Rattle.std.specs.Hash.DefaultHasher as sip
 use Rattle.sha2.specs.Sha256.{sha256}
-use Rattle.kept_records.specs.Fields.{u64_at}
+use Rattle.codec.specs.Fields.{u64_at}
 
 -- the largest number of eight bytes
 abbrev pub largest : ℕ

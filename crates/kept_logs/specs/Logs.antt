@@ -6,13 +6,14 @@ use Rattle.kept_logs.specs.Stamps.{Stamped, KeptLog, bare, stamped_text, stamped
 use Rattle.kept_logs.specs.declared.fault.LogFault.{LogFault}
 use Rattle.kept_logs.specs.declared.fault.LogFault.TheVariants as fault
 use Rattle.kept_logs.specs.Faults.{◌>>=◌, some_or}
-use Rattle.kept_logs.specs.Fields.{bytes_at, node_text, node_at}
+use Rattle.codec.specs.Fields.{bytes_at}
+use Rattle.kept_logs.specs.Fields.{node_codec}
 use Rattle.kept_logs.specs.Digests.{version_of}
 use Rattle.kept_logs.specs.Frames.{check_of, frame_text, Met, Whole, Torn, Differs, met, Frame, Framed, CutOff, Damaged, frame_at}
 
 -- whose log it is, and under which settings: a node, and a digest of the settings, 35 bytes
 unfoldable pub owner_text : List ℕ → Node → List ℕ
-owner_text digest node = node_text node ++ digest
+owner_text digest node = node_codec.text node ++ digest
 
 -- the head of a log: its name, its version, its owner, and what vouches for that, under the number 0; 46 bytes. The version is the first byte of what
 -- the head has of the settings, and the digest is after it
@@ -43,7 +44,7 @@ head_in digest bytes = do
   known ← expected fault.Version (met (take 1 digest) named)
   owner ← some_or fault.Short (bytes_at 35 known)
   rest ← expected fault.DamagedHead (met (check_of (version_of digest) 0 owner.0) owner.1)
-  node ← some_or fault.NoNode (node_at owner.0)
+  node ← some_or fault.NoNode (node_codec.at owner.0)
   own ← expected fault.OtherSettings (met (drop 1 digest) node.1)
   Ok (node.0, rest)
 

@@ -1,7 +1,6 @@
 -- Logs that go on after closed ones: what such a log begins with, which stands in a file of its own.
-use Rattle.std.specs.Prelude.{◌≡◌, ℕ, zero, suc, ◌<◌, ◌^◌, ◌==◌, ◌||◌, cond, bytes_eq, List, [], ◌∷◌, ◌++◌, length, take, drop, codes, Option, Some, None}
+use Rattle.std.specs.Prelude.{◌≡◌, ℕ, ◌<◌, ◌^◌, ◌==◌, ◌||◌, cond, bytes_eq, List, [], ◌∷◌, ◌++◌, length, take, drop, codes, Option, Some, None}
 use Rattle.std.specs.List.{AllByRecursion}
-use Rattle.std.specs.Int.{w64, to_be_bytes}
 use Rattle.claim_model.specs.Node.{Node}
 use Rattle.claim_model.specs.Nodes.{AnyNode, node_at, same_node}
 use Rattle.claim_model.specs.Settings.{opening}
@@ -9,11 +8,11 @@ use Rattle.claim_model.specs.Settings as model
 use Rattle.world_setup.specs.Seen.{settings_seen}
 use Rattle.world_setup.specs.declared.settings.WorldSettings.{WorldSettings}
 use Rattle.node_state.specs.Resting.{resumed}
-use Rattle.kept_records.specs.Fields.{u8_at, u64_at}
-use Rattle.kept_records.specs.Options.{◌>>=◌}
+use Rattle.codec.specs.Options.{◌>>=◌}
+use Rattle.codec.specs.Fields.{u8_at}
+use Rattle.codec.specs.Codecs.{Codec, u64, exactly, text, both, of_parts, counted}
 use Rattle.kept_logs.specs.Digests.{of_said}
-use Rattle.kept_logs.specs.Fields as field
-use Rattle.kept_logs.specs.Fields.{bytes_at, node_text, text_at, text_of}
+use Rattle.kept_logs.specs.Fields.{node_codec}
 use Rattle.kept_logs.specs.References.{Reference}
 use Rattle.kept_logs.specs.Fits.{FitsNode}
 use Rattle.kept_logs.specs.Frames.{check_of, Met, Whole, Torn, Differs, met}
@@ -28,17 +27,12 @@ pub record Rest : Type 0 where
   pub kept : List ℕ
 
 -- a reference: its name, and the number
-unfoldable pub reference_text : Reference → List ℕ
-reference_text r = text_of r.name ++ to_be_bytes w64 r.number
-
--- references, one after the other
-unfoldable pub each_text : List Reference → List ℕ
-each_text [] = []
-each_text (r ∷ more) = reference_text r ++ each_text more
+unfoldable pub reference_codec : Codec Reference
+reference_codec = of_parts (both text u64) (λ p. record { name = p.0; number = p.1 }) (λ r. (r.name, r.number))
 
 -- how many references there are, and these
-unfoldable pub references_text : List Reference → List ℕ
-references_text references = to_be_bytes w64 (length references) ++ each_text references
+abbrev pub references_codec : Codec (List Reference)
+references_codec = counted u64 reference_codec
 
 -- version 2 has references, version 1 has none
 abbrev pub rest_version : List Reference → ℕ
@@ -46,11 +40,15 @@ rest_version references = cond (length references == 0) 1 2
 
 -- what the check sum is of: the references, if there are any, and the record
 unfoldable pub rest_body : List Reference → List ℕ → List ℕ
-rest_body references kept = cond (length references == 0) kept (references_text references ++ kept)
+rest_body references kept = cond (length references == 0) kept (references_codec.text references ++ kept)
 
--- before that: the name, the version, the node, the calls, the digest, and what vouches for what follows; 54 bytes
+-- the node, the calls, the digest, and what vouches for what follows
+unfoldable pub fields_codec : Codec (Node × (ℕ × (List ℕ × List ℕ)))
+fields_codec = both node_codec (both u64 (both (exactly 32) (exactly 8)))
+
+-- before that: the name, the version, and these; 54 bytes
 unfoldable pub rest_head : Rest → List ℕ
-rest_head r = codes "PR" ++ (rest_version r.references ∷ (node_text r.node ++ (to_be_bytes w64 r.calls ++ (r.closed ++ check_of 2 r.calls (rest_body r.references r.kept)))))
+rest_head r = codes "PR" ++ (rest_version r.references ∷ fields_codec.text (r.node, (r.calls, (r.closed, check_of 2 r.calls (rest_body r.references r.kept)))))
 
 unfoldable pub rest_text : Rest → List ℕ
 rest_text r = rest_head r ++ rest_body r.references r.kept
@@ -61,39 +59,16 @@ behind_met (Whole rest) = Some rest
 behind_met Torn = None
 behind_met Differs = None
 
--- a reference at the front, and what follows it; None where it is cut off
-unfoldable pub reference_at : List ℕ → Option (Reference × List ℕ)
-reference_at bytes = do
-  name ← text_at bytes
-  number ← u64_at name.1
-  Some (record { name = name.0; number = number.0 }, number.1)
-
--- this many references at the front, and what follows them; None where they are cut off
-unfoldable pub each_at : ℕ → List ℕ → Option (List Reference × List ℕ)
-each_at zero bytes = Some ([], bytes)
-each_at (suc count) bytes = do
-  one ← reference_at bytes
-  more ← each_at count one.1
-  Some (one.0 ∷ more.0, more.1)
-
-unfoldable pub references_at : List ℕ → Option (List Reference × List ℕ)
-references_at bytes = do
-  count ← u64_at bytes
-  each_at count.0 count.1
-
 -- the references and the record
 abbrev pub body_in : ℕ → List ℕ → Option (List Reference × List ℕ)
-body_in version body = cond (version == 2) (references_at body) (Some ([], body))
+body_in version body = cond (version == 2) (references_codec.at body) (Some ([], body))
 
--- after the version: the node, the calls, the digest, and what is vouched for
+-- after the version: the fields, and what is vouched for
 unfoldable pub rest_behind : ℕ → List ℕ → Option Rest
 rest_behind version named = do
-  node ← field.node_at named
-  calls ← u64_at node.1
-  closed ← bytes_at 32 calls.1
-  sum ← bytes_at 8 closed.1
-  body ← cond (bytes_eq sum.0 (check_of 2 calls.0 sum.1)) (body_in version sum.1) None
-  Some (record { node = node.0; calls = calls.0; closed = closed.0; references = body.0; kept = body.1 })
+  fields ← fields_codec.at named
+  body ← cond (bytes_eq fields.0.1.1.1 (check_of 2 fields.0.1.0 fields.1)) (body_in version fields.1) None
+  Some (record { node = fields.0.0; calls = fields.0.1.0; closed = fields.0.1.1.0; references = body.0; kept = body.1 })
 
 -- of one of the two versions
 abbrev pub versioned : Option (ℕ × List ℕ) → Option Rest
@@ -106,11 +81,10 @@ rest_in bytes = do
   named ← behind_met (met (codes "PR") bytes)
   versioned (u8_at named)
 
--- its numbers are numbers of a machine, and its digest is one
-pub record FitsReference (r : Reference) : Type 0 where
-  pub name : length r.name < 2 ^ 64
-  pub number : r.number < 2 ^ 64
+abbrev pub FitsReference : Reference → Type 0
+FitsReference = reference_codec.Fits
 
+-- its numbers are numbers of a machine, and its digest is one
 pub record FitsRest (r : Rest) : Type 0 where
   pub node : FitsNode r.node
   pub calls : r.calls < 2 ^ 64

@@ -5,21 +5,19 @@ ghost use Rattle.std.specs.Option.{option_map};
 ghost use Rattle.claim_model.specs.Node.{Submit, Take, Reprice, Adjudicate};
 ghost use Rattle.claim_model.specs.Words.{SetPrice, SetTerms};
 ghost use Rattle.world_setup.specs.Seen.{node_seen, call_seen};
-ghost use Rattle.kept_logs.specs.Calls.{call_text, call_at, call_of, submit_at, take_at, adjudicate_at, unplan_at, plan_at, terms_at};
-ghost use Rattle.kept_logs.specs.Fits.{FitsCall};
+ghost use Rattle.kept_logs.specs.Calls.{call_codec, call_of};
 
-use crate::fields::{take_node, take_text};
-use crate::putting::{put_node, put_text};
-use kept_records::{put_u8, put_u32, take_u8, take_u32};
+use crate::nodes::{put_node, take_node};
+use codec::{put_text, put_u8, put_u32, take_text, take_u8, take_u32};
 use octets::Octets;
 use std::alloc::{AllocError, Global};
 use world_setup::{Call, Node};
 
 /// Puts a call.
-#[tactic(auto, unfolding(crate::specs::Calls::call_text))]
+#[tactic(auto, unfolding(crate::specs::Calls::call_codec))]
 pub(crate) fn put_call(out: &mut Vec<u8>, call: &Call) -> Result<(), AllocError>
-    ensures text { OnOk result (out.new.items ≡ out.old.items ++ call_text (call_seen call.now)) }
-    ensures fits { OnOk result (FitsCall (call_seen call.now)) }
+    ensures text { OnOk result (out.new.items ≡ out.old.items ++ call_codec.text (call_seen call.now)) }
+    ensures fits { OnOk result (call_codec.Fits (call_seen call.now)) }
 {
     match call {
         Call::Submit(text) => put_submit(out, text),
@@ -38,20 +36,20 @@ pub(crate) fn put_call(out: &mut Vec<u8>, call: &Call) -> Result<(), AllocError>
 }
 
 /// Puts a submission.
-#[tactic(auto, unfolding(crate::specs::Calls::call_text))]
+#[tactic(auto, unfolding(crate::specs::Calls::call_codec))]
 fn put_submit(out: &mut Vec<u8>, text: &Octets) -> Result<(), AllocError>
-    ensures text { OnOk result (out.new.items ≡ out.old.items ++ call_text (Submit text.now)) }
-    ensures fits { OnOk result (FitsCall (Submit text.now)) }
+    ensures text { OnOk result (out.new.items ≡ out.old.items ++ call_codec.text (Submit text.now)) }
+    ensures fits { OnOk result (call_codec.Fits (Submit text.now)) }
 {
     put_u8(out, 0)?;
     put_text(out, text.as_slice())
 }
 
 /// Puts the taking of a packet.
-#[tactic(auto, unfolding(crate::specs::Calls::call_text))]
+#[tactic(auto, unfolding(crate::specs::Calls::call_codec))]
 fn put_take(out: &mut Vec<u8>, from: Node, bytes: &Octets) -> Result<(), AllocError>
-    ensures text { OnOk result (out.new.items ≡ out.old.items ++ call_text (Take (node_seen from) bytes.now)) }
-    ensures fits { OnOk result (FitsCall (Take (node_seen from) bytes.now)) }
+    ensures text { OnOk result (out.new.items ≡ out.old.items ++ call_codec.text (Take (node_seen from) bytes.now)) }
+    ensures fits { OnOk result (call_codec.Fits (Take (node_seen from) bytes.now)) }
 {
     put_u8(out, 2)?;
     put_node(out, from)?;
@@ -59,7 +57,7 @@ fn put_take(out: &mut Vec<u8>, from: Node, bytes: &Octets) -> Result<(), AllocEr
 }
 
 /// Puts the taking of a packet with an advice.
-#[tactic(auto, unfolding(crate::specs::Calls::call_text))]
+#[tactic(auto, unfolding(crate::specs::Calls::call_codec))]
 fn put_adjudicate(
     out: &mut Vec<u8>,
     from: Node,
@@ -67,8 +65,8 @@ fn put_adjudicate(
     advice: &Octets,
 ) -> Result<(), AllocError>
     ensures text { OnOk result (out.new.items
-        ≡ out.old.items ++ call_text (Adjudicate (node_seen from) bytes.now advice.now)) }
-    ensures fits { OnOk result (FitsCall (Adjudicate (node_seen from) bytes.now advice.now)) }
+        ≡ out.old.items ++ call_codec.text (Adjudicate (node_seen from) bytes.now advice.now)) }
+    ensures fits { OnOk result (call_codec.Fits (Adjudicate (node_seen from) bytes.now advice.now)) }
 {
     put_u8(out, 8)?;
     put_node(out, from)?;
@@ -77,10 +75,10 @@ fn put_adjudicate(
 }
 
 /// Puts a change of a price.
-#[tactic(auto, unfolding(crate::specs::Calls::call_text))]
+#[tactic(auto, unfolding(crate::specs::Calls::call_codec))]
 fn put_plan(out: &mut Vec<u8>, product: &Octets, price: Option<u32>) -> Result<(), AllocError>
-    ensures text { OnOk result (out.new.items ≡ out.old.items ++ call_text (Reprice (SetPrice product.now price))) }
-    ensures fits { OnOk result (FitsCall (Reprice (SetPrice product.now price))) }
+    ensures text { OnOk result (out.new.items ≡ out.old.items ++ call_codec.text (Reprice (SetPrice product.now price))) }
+    ensures fits { OnOk result (call_codec.Fits (Reprice (SetPrice product.now price))) }
 {
     match price {
         None => {
@@ -96,10 +94,10 @@ fn put_plan(out: &mut Vec<u8>, product: &Octets, price: Option<u32>) -> Result<(
 }
 
 /// Puts a change of the terms of a plan.
-#[tactic(auto, unfolding(crate::specs::Calls::call_text))]
+#[tactic(auto, unfolding(crate::specs::Calls::call_codec))]
 fn put_terms(out: &mut Vec<u8>, fee: u32, copay: u32) -> Result<(), AllocError>
-    ensures text { OnOk result (out.new.items ≡ out.old.items ++ call_text (Reprice (SetTerms fee copay))) }
-    ensures fits { OnOk result (FitsCall (Reprice (SetTerms fee copay))) }
+    ensures text { OnOk result (out.new.items ≡ out.old.items ++ call_codec.text (Reprice (SetTerms fee copay))) }
+    ensures fits { OnOk result (call_codec.Fits (Reprice (SetTerms fee copay))) }
 {
     put_u8(out, 9)?;
     put_u32(out, fee)?;
@@ -107,9 +105,9 @@ fn put_terms(out: &mut Vec<u8>, fee: u32, copay: u32) -> Result<(), AllocError>
 }
 
 /// The call at the front and what follows it; none where it is cut off or of no kind that there is.
-#[tactic(auto, unfolding(crate::specs::Calls::call_at))]
+#[tactic(auto, unfolding(crate::specs::Calls::call_codec))]
 pub(crate) fn take_call(alloc: Global, bytes: &[u8]) -> Result<Option<(Call, &[u8])>, AllocError>
-    ensures { IfOk result (λ o. option_map (λ taken. (call_seen taken.0, taken.1.now)) o ≡ call_at bytes.now) }
+    ensures { IfOk result (λ o. option_map (λ taken. (call_seen taken.0, taken.1.now)) o ≡ call_codec.at bytes.now) }
 {
     let Some((kind, rest)) = take_u8(bytes) else {
         return Ok(None);
@@ -136,9 +134,8 @@ fn call_of(alloc: Global, kind: u8, bytes: &[u8]) -> Result<Option<(Call, &[u8])
 }
 
 /// A submission and what follows it.
-#[tactic(auto, unfolding(crate::specs::Calls::submit_at))]
 fn take_submit(alloc: Global, bytes: &[u8]) -> Result<Option<(Call, &[u8])>, AllocError>
-    ensures { IfOk result (λ o. option_map (λ taken. (call_seen taken.0, taken.1.now)) o ≡ submit_at bytes.now) }
+    ensures { IfOk result (λ o. option_map (λ taken. (call_seen taken.0, taken.1.now)) o ≡ call_of 0 bytes.now) }
 {
     let Some((text, rest)) = take_text(bytes) else {
         return Ok(None);
@@ -148,9 +145,8 @@ fn take_submit(alloc: Global, bytes: &[u8]) -> Result<Option<(Call, &[u8])>, All
 }
 
 /// The taking of a packet, and what follows it.
-#[tactic(auto, unfolding(crate::specs::Calls::take_at))]
 fn take_take(alloc: Global, bytes: &[u8]) -> Result<Option<(Call, &[u8])>, AllocError>
-    ensures { IfOk result (λ o. option_map (λ taken. (call_seen taken.0, taken.1.now)) o ≡ take_at bytes.now) }
+    ensures { IfOk result (λ o. option_map (λ taken. (call_seen taken.0, taken.1.now)) o ≡ call_of 2 bytes.now) }
 {
     let Some((from, rest)) = take_node(bytes) else {
         return Ok(None);
@@ -163,9 +159,8 @@ fn take_take(alloc: Global, bytes: &[u8]) -> Result<Option<(Call, &[u8])>, Alloc
 }
 
 /// The taking of a packet with an advice, and what follows it.
-#[tactic(auto, unfolding(crate::specs::Calls::adjudicate_at))]
 fn take_adjudicate(alloc: Global, bytes: &[u8]) -> Result<Option<(Call, &[u8])>, AllocError>
-    ensures { IfOk result (λ o. option_map (λ taken. (call_seen taken.0, taken.1.now)) o ≡ adjudicate_at bytes.now) }
+    ensures { IfOk result (λ o. option_map (λ taken. (call_seen taken.0, taken.1.now)) o ≡ call_of 8 bytes.now) }
 {
     let Some((from, rest)) = take_node(bytes) else {
         return Ok(None);
@@ -189,9 +184,8 @@ fn take_adjudicate(alloc: Global, bytes: &[u8]) -> Result<Option<(Call, &[u8])>,
 }
 
 /// A product that is taken off a plan, and what follows it.
-#[tactic(auto, unfolding(crate::specs::Calls::unplan_at))]
 fn take_unplan(alloc: Global, bytes: &[u8]) -> Result<Option<(Call, &[u8])>, AllocError>
-    ensures { IfOk result (λ o. option_map (λ taken. (call_seen taken.0, taken.1.now)) o ≡ unplan_at bytes.now) }
+    ensures { IfOk result (λ o. option_map (λ taken. (call_seen taken.0, taken.1.now)) o ≡ call_of 5 bytes.now) }
 {
     let Some((product, rest)) = take_text(bytes) else {
         return Ok(None);
@@ -205,9 +199,8 @@ fn take_unplan(alloc: Global, bytes: &[u8]) -> Result<Option<(Call, &[u8])>, All
 }
 
 /// A product and its price, and what follows them.
-#[tactic(auto, unfolding(crate::specs::Calls::plan_at))]
 fn take_plan(alloc: Global, bytes: &[u8]) -> Result<Option<(Call, &[u8])>, AllocError>
-    ensures { IfOk result (λ o. option_map (λ taken. (call_seen taken.0, taken.1.now)) o ≡ plan_at bytes.now) }
+    ensures { IfOk result (λ o. option_map (λ taken. (call_seen taken.0, taken.1.now)) o ≡ call_of 6 bytes.now) }
 {
     let Some((product, rest)) = take_text(bytes) else {
         return Ok(None);
@@ -224,9 +217,8 @@ fn take_plan(alloc: Global, bytes: &[u8]) -> Result<Option<(Call, &[u8])>, Alloc
 }
 
 /// A fee and a copay, and what follows them.
-#[tactic(auto, unfolding(crate::specs::Calls::terms_at))]
 fn take_terms(bytes: &[u8]) -> Option<(Call, &[u8])>
-    ensures { option_map (λ taken. (call_seen taken.0, taken.1.now)) result ≡ terms_at bytes.now }
+    ensures { option_map (λ taken. (call_seen taken.0, taken.1.now)) result ≡ call_of 9 bytes.now }
 {
     let (fee, rest) = take_u32(bytes)?;
     let (copay, rest) = take_u32(rest)?;

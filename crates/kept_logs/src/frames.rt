@@ -9,7 +9,7 @@ ghost use Rattle.kept_logs.specs.MetSeen.{frame_seen};
 use crate::met::{Met, meet};
 use crate::sums::check_of;
 use crate::version::LogVersion;
-use kept_records::{put_u64, take_u64};
+use codec::{put_u64, take_u64};
 use std::alloc::{AllocError, Global};
 
 /// What a record takes beside its body, in bytes: its length twice, and what vouches for it.

@@ -8,10 +8,10 @@ ghost use Rattle.kept_logs.specs.Fits.{FitsNode};
 
 use crate::digest::SettingsDigest;
 use crate::fault::LogFault;
-use crate::fields::{take_bytes, take_node};
 use crate::met::{Met, meet};
-use crate::putting::put_node;
+use crate::nodes::{put_node, take_node};
 use crate::sums::check_of;
+use codec::take_bytes;
 use std::alloc::{AllocError, Global};
 use world_setup::Node;
 

@@ -1,19 +1,18 @@
 //! Accepted calls in a log, each with what it sent.
 
-ghost use Rattle.std.specs.Prelude.{◌≡◌, ◌<◌, ◌^◌, ◌++◌, map, length, OnOk, IfOk};
-ghost use Rattle.std.specs.List.{AllByRecursion};
+ghost use Rattle.std.specs.Prelude.{◌≡◌, ◌++◌, map, OnOk, IfOk};
+ghost use Rattle.std.specs.List.{AllByRecursion, flat_map};
 ghost use Rattle.std.specs.Option.{option_map};
 ghost use Rattle.world_setup.specs.Seen.{sent_seen};
-ghost use Rattle.kept_logs.specs.Records.{sent_text, sent_at, sents_text, sents_in, logged_text, logged_in};
-ghost use Rattle.kept_logs.specs.Stamps.{noted_in, stamp_at, stamped_in, stamped_text, with_stamp};
+ghost use Rattle.codec.specs.Codecs.{times, whole};
+ghost use Rattle.kept_logs.specs.Records.{logged_codec, sent_codec};
+ghost use Rattle.kept_logs.specs.Stamps.{noted_in, stamp_codec, stamped_in, stamped_text, with_stamp};
 ghost use Rattle.kept_logs.specs.LogSeen.{entry_seen, stamp_seen};
-ghost use Rattle.kept_logs.specs.Fits.{FitsLogged, FitsSent};
 
 use crate::calls::{put_call, take_call};
-use crate::fields::{take_node, take_text};
-use crate::putting::{put_node, put_text};
+use crate::nodes::{put_node, take_node};
 use crate::stamps::{Stamp, is_plain, put_stamp, take_stamp};
-use kept_records::{put_u8, put_u64, take_u8, take_u64};
+use codec::{put_text, put_u8, put_u64, take_text, take_u8, take_u64};
 use node_log::Record;
 use octets::Octets;
 use std::alloc::{AllocError, Global};
@@ -30,9 +29,8 @@ const ROOM: usize = 1024;
 pub(crate) fn body_of(alloc: Global, one: &Record, stamp: &Stamp<'_>) -> Result<Vec<u8>, AllocError>
     ensures text { IfOk result (λ body. body.items
         ≡ stamped_text (record { logged = one.now; stamp = stamp_seen stamp.now })) }
-    ensures logged { IfOk result (λ _. FitsLogged one.now) }
-    ensures time { IfOk result (λ _. stamp.now.time < 2 ^ 64) }
-    ensures reference { IfOk result (λ _. length stamp.now.reference.now < 2 ^ 64) }
+    ensures logged { IfOk result (λ _. logged_codec.Fits one.now) }
+    ensures stamp { IfOk result (λ _. stamp_codec.Fits (stamp_seen stamp.now)) }
 {
     let mut body = Vec::with_capacity(alloc, ROOM)?;
     if !is_plain(stamp) {
@@ -44,10 +42,10 @@ pub(crate) fn body_of(alloc: Global, one: &Record, stamp: &Stamp<'_>) -> Result<
 }
 
 /// Puts an accepted call, and what it sent.
-#[tactic(auto, unfolding(crate::specs::Records::logged_text))]
+#[tactic(auto, unfolding(crate::specs::Records::logged_codec))]
 fn put_logged(out: &mut Vec<u8>, one: &Record) -> Result<(), AllocError>
-    ensures text { OnOk result (out.new.items ≡ out.old.items ++ logged_text one.now) }
-    ensures fits { OnOk result (FitsLogged one.now) }
+    ensures text { OnOk result (out.new.items ≡ out.old.items ++ logged_codec.text one.now) }
+    ensures fits { OnOk result (logged_codec.Fits one.now) }
 {
     put_call(out, one.call())?;
     put_u64(out, one.sent().len() as u64)?;
@@ -56,8 +54,8 @@ fn put_logged(out: &mut Vec<u8>, one: &Record) -> Result<(), AllocError>
 
 /// Puts packets, one after the other.
 fn put_sents(out: &mut Vec<u8>, sent: &[Sent]) -> Result<(), AllocError>
-    ensures text { OnOk result (out.new.items ≡ out.old.items ++ sents_text (map sent_seen sent.now)) }
-    ensures fits { OnOk result (AllByRecursion FitsSent (map sent_seen sent.now)) }
+    ensures text { OnOk result (out.new.items ≡ out.old.items ++ flat_map sent_codec.text (map sent_seen sent.now)) }
+    ensures fits { OnOk result (AllByRecursion sent_codec.Fits (map sent_seen sent.now)) }
 {
     for one in sent {
         put_sent(out, one)?;
@@ -66,10 +64,10 @@ fn put_sents(out: &mut Vec<u8>, sent: &[Sent]) -> Result<(), AllocError>
 }
 
 /// Puts a packet after its addressee.
-#[tactic(auto, unfolding(crate::specs::Records::sent_text))]
+#[tactic(auto, unfolding(crate::specs::Records::sent_codec))]
 fn put_sent(out: &mut Vec<u8>, one: &Sent) -> Result<(), AllocError>
-    ensures text { OnOk result (out.new.items ≡ out.old.items ++ sent_text (sent_seen one.now)) }
-    ensures fits { OnOk result (FitsSent (sent_seen one.now)) }
+    ensures text { OnOk result (out.new.items ≡ out.old.items ++ sent_codec.text (sent_seen one.now)) }
+    ensures fits { OnOk result (sent_codec.Fits (sent_seen one.now)) }
 {
     put_node(out, one.to)?;
     put_text(out, one.bytes.as_slice())
@@ -97,7 +95,7 @@ pub(crate) fn entry_of(alloc: Global, body: &[u8]) -> Result<Option<Entry<'_>>, 
 
 /// The call after what was noted of it, which has to be something.
 fn noted_of(alloc: Global, bytes: &[u8]) -> Result<Option<Entry<'_>>, AllocError>
-    ensures { IfOk result (λ o. option_map entry_seen o ≡ noted_in (stamp_at bytes.now)) }
+    ensures { IfOk result (λ o. option_map entry_seen o ≡ noted_in (stamp_codec.at bytes.now)) }
 {
     match take_stamp(bytes) {
         Some((stamp, rest)) if !is_plain(&stamp) => call_of(alloc, stamp, rest),
@@ -106,13 +104,13 @@ fn noted_of(alloc: Global, bytes: &[u8]) -> Result<Option<Entry<'_>>, AllocError
 }
 
 /// The accepted call that these bytes are, of which this was noted; none where they are none.
-#[tactic(auto, unfolding(crate::specs::Records::logged_in))]
+#[tactic(auto, unfolding(crate::specs::Records::logged_codec))]
 fn call_of<'a>(
     alloc: Global,
     stamp: Stamp<'a>,
     body: &[u8],
 ) -> Result<Option<Entry<'a>>, AllocError>
-    ensures { IfOk result (λ o. option_map entry_seen o ≡ with_stamp (stamp_seen stamp.entry) (logged_in body.now)) }
+    ensures { IfOk result (λ o. option_map entry_seen o ≡ with_stamp (stamp_seen stamp.entry) (whole logged_codec body.now)) }
 {
     let Some((call, rest)) = take_call(alloc, body)? else {
         return Ok(None);
@@ -120,15 +118,24 @@ fn call_of<'a>(
     let Some((count, rest)) = take_u64(rest) else {
         return Ok(None);
     };
-    let Some(sent) = take_sents(alloc, count, rest)? else {
+    let Some((sent, rest)) = take_sents(alloc, count, rest)? else {
         return Ok(None);
     };
-    Ok(Some(Entry { call, sent, stamp }))
+    if rest.is_empty() {
+        Ok(Some(Entry { call, sent, stamp }))
+    } else {
+        Ok(None)
+    }
 }
 
-/// This many packets, which are all of these bytes; none where bytes are too few or too many.
-fn take_sents(alloc: Global, count: u64, bytes: &[u8]) -> Result<Option<Vec<Sent>>, AllocError>
-    ensures { IfOk result (λ o. option_map (λ sent. map sent_seen sent.items) o ≡ sents_in count bytes.now) }
+/// This many packets at the front, and what follows them; none where they are cut off.
+fn take_sents(
+    alloc: Global,
+    count: u64,
+    bytes: &[u8],
+) -> Result<Option<(Vec<Sent>, &[u8])>, AllocError>
+    ensures { IfOk result (λ o. option_map (λ taken. (map sent_seen taken.0.items, taken.1.now)) o
+        ≡ times sent_codec count bytes.now) }
 {
     let mut all = Vec::new(alloc);
     let mut rest = bytes;
@@ -139,17 +146,13 @@ fn take_sents(alloc: Global, count: u64, bytes: &[u8]) -> Result<Option<Vec<Sent
         all.push(one)?;
         rest = after;
     }
-    if rest.is_empty() {
-        Ok(Some(all))
-    } else {
-        Ok(None)
-    }
+    Ok(Some((all, rest)))
 }
 
 /// A packet and what follows it; none where it is cut off.
-#[tactic(auto, unfolding(crate::specs::Records::sent_at))]
+#[tactic(auto, unfolding(crate::specs::Records::sent_codec))]
 fn take_sent(alloc: Global, bytes: &[u8]) -> Result<Option<(Sent, &[u8])>, AllocError>
-    ensures { IfOk result (λ o. option_map (λ taken. (sent_seen taken.0, taken.1.now)) o ≡ sent_at bytes.now) }
+    ensures { IfOk result (λ o. option_map (λ taken. (sent_seen taken.0, taken.1.now)) o ≡ sent_codec.at bytes.now) }
 {
     let Some((to, rest)) = take_node(bytes) else {
         return Ok(None);

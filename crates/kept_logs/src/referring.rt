@@ -1,22 +1,20 @@
 //! References in what a log begins with.
 
-ghost use Rattle.std.specs.Prelude.{◌≡◌, ◌++◌, ◌<◌, ◌^◌, length, IfOk, OnOk};
-ghost use Rattle.std.specs.List.{AllByRecursion};
+ghost use Rattle.std.specs.Prelude.{◌≡◌, ◌++◌, IfOk, OnOk};
+ghost use Rattle.std.specs.List.{AllByRecursion, flat_map};
 ghost use Rattle.std.specs.Option.{option_map};
-ghost use Rattle.kept_logs.specs.Rests.{FitsReference, each_at, each_text, reference_at, reference_text, references_at, references_text};
+ghost use Rattle.codec.specs.Codecs.{times};
+ghost use Rattle.kept_logs.specs.Rests.{reference_codec, references_codec};
 
-use crate::fields::take_text;
-use crate::putting::put_text;
 use crate::references::Reference;
-use kept_records::{put_u64, take_u64};
+use codec::{put_text, put_u64, take_text, take_u64};
 use octets::Octets;
 use std::alloc::{AllocError, Global};
 
 /// Puts how many references there are, and these.
-#[tactic(auto, unfolding(crate::specs::Rests::references_text))]
 pub(crate) fn put_references(out: &mut Vec<u8>, references: &[Reference]) -> Result<(), AllocError>
-    ensures text { OnOk result (out.new.items ≡ out.old.items ++ references_text references.now) }
-    ensures fits { OnOk result (AllByRecursion FitsReference references.now) }
+    ensures text { OnOk result (out.new.items ≡ out.old.items ++ references_codec.text references.now) }
+    ensures fits { OnOk result (references_codec.Fits references.now) }
 {
     put_u64(out, references.len() as u64)?;
     put_each(out, references)
@@ -24,8 +22,8 @@ pub(crate) fn put_references(out: &mut Vec<u8>, references: &[Reference]) -> Res
 
 /// Puts references, one after the other.
 fn put_each(out: &mut Vec<u8>, references: &[Reference]) -> Result<(), AllocError>
-    ensures text { OnOk result (out.new.items ≡ out.old.items ++ each_text references.now) }
-    ensures fits { OnOk result (AllByRecursion FitsReference references.now) }
+    ensures text { OnOk result (out.new.items ≡ out.old.items ++ flat_map reference_codec.text references.now) }
+    ensures fits { OnOk result (AllByRecursion reference_codec.Fits references.now) }
 {
     for one in references {
         put_reference(out, one)?;
@@ -34,22 +32,21 @@ fn put_each(out: &mut Vec<u8>, references: &[Reference]) -> Result<(), AllocErro
 }
 
 /// Puts a reference: its name, and the number.
-#[tactic(auto, unfolding(crate::specs::Rests::reference_text))]
+#[tactic(auto, unfolding(crate::specs::Rests::reference_codec))]
 fn put_reference(out: &mut Vec<u8>, one: &Reference) -> Result<(), AllocError>
-    ensures text { OnOk result (out.new.items ≡ out.old.items ++ reference_text one.now) }
-    ensures fits { OnOk result (FitsReference one.now) }
+    ensures text { OnOk result (out.new.items ≡ out.old.items ++ reference_codec.text one.now) }
+    ensures fits { OnOk result (reference_codec.Fits one.now) }
 {
     put_text(out, one.name())?;
     put_u64(out, one.number())
 }
 
 /// The references at the front, and what follows them; none where they are cut off.
-#[tactic(auto, unfolding(crate::specs::Rests::references_at))]
 pub(crate) fn take_references(
     alloc: Global,
     bytes: &[u8],
 ) -> Result<Option<(Vec<Reference>, &[u8])>, AllocError>
-    ensures { IfOk result (λ o. option_map (λ taken. (taken.0.items, taken.1.now)) o ≡ references_at bytes.now) }
+    ensures { IfOk result (λ o. option_map (λ taken. (taken.0.items, taken.1.now)) o ≡ references_codec.at bytes.now) }
 {
     let Some((count, rest)) = take_u64(bytes) else {
         return Ok(None);
@@ -63,7 +60,8 @@ fn take_each(
     count: u64,
     bytes: &[u8],
 ) -> Result<Option<(Vec<Reference>, &[u8])>, AllocError>
-    ensures { IfOk result (λ o. option_map (λ taken. (taken.0.items, taken.1.now)) o ≡ each_at count bytes.now) }
+    ensures { IfOk result (λ o. option_map (λ taken. (taken.0.items, taken.1.now)) o
+        ≡ times reference_codec count bytes.now) }
 {
     let mut all = Vec::new(alloc);
     let mut rest = bytes;
@@ -78,9 +76,9 @@ fn take_each(
 }
 
 /// A reference at the front, and what follows it; none where it is cut off.
-#[tactic(auto, unfolding(crate::specs::Rests::reference_at))]
+#[tactic(auto, unfolding(crate::specs::Rests::reference_codec))]
 fn take_reference(alloc: Global, bytes: &[u8]) -> Result<Option<(Reference, &[u8])>, AllocError>
-    ensures { IfOk result (λ o. option_map (λ taken. (taken.0, taken.1.now)) o ≡ reference_at bytes.now) }
+    ensures { IfOk result (λ o. option_map (λ taken. (taken.0, taken.1.now)) o ≡ reference_codec.at bytes.now) }
 {
     let Some((name, rest)) = take_text(bytes) else {
         return Ok(None);

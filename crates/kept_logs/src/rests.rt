@@ -11,14 +11,13 @@ ghost use Rattle.kept_logs.specs.Frames.{met};
 ghost use Rattle.kept_logs.specs.Rests.{FitsReference, begins, begun_from, behind_met, body_in, calls_before, references_before, references_of, rest_behind, rest_body, rest_in, rest_text, rest_version};
 ghost use Rattle.kept_logs.specs.RestSeen.{rest_seen};
 
-use crate::fields::{take_bytes, take_node};
 use crate::met::{Met, meet};
-use crate::putting::put_node;
+use crate::nodes::{put_node, take_node};
 use crate::references::Reference;
 use crate::referring::{put_references, take_references};
 use crate::sums::check_of;
 use crate::version::LogVersion;
-use kept_records::{put_u8, put_u64, take_u8, take_u64};
+use codec::{put_u8, put_u64, take_bytes, take_u8, take_u64};
 use node_log::is_same_node;
 use node_state::NodeState;
 use std::alloc::{AllocError, Global};
@@ -54,7 +53,7 @@ pub struct Rest<'a> {
 }
 
 /// The text of what a log begins with.
-#[tactic(auto, unfolding(crate::specs::Rests::rest_text, crate::specs::Rests::rest_head))]
+#[tactic(auto, unfolding(crate::specs::Rests::rest_text, crate::specs::Rests::rest_head, crate::specs::Rests::fields_codec))]
 pub fn write_rest(alloc: Global, rest: &Rest<'_>) -> Result<Vec<u8>, AllocError>
     ensures text { IfOk result (λ text. text.items ≡ rest_text (rest_seen rest.now)) }
     ensures node { IfOk result (λ _. FitsNode (node_seen rest.now.node)) }
@@ -131,7 +130,7 @@ fn named(bytes: &[u8]) -> Option<&[u8]>
 }
 
 /// What stands after the version.
-#[tactic(auto, unfolding(crate::specs::Rests::rest_behind))]
+#[tactic(auto, unfolding(crate::specs::Rests::rest_behind, crate::specs::Rests::fields_codec))]
 fn rest_behind(alloc: Global, version: u8, bytes: &[u8]) -> Result<Option<Rest<'_>>, AllocError>
     ensures { IfOk result (λ rest. option_map rest_seen rest ≡ rest_behind version bytes.now) }
 {

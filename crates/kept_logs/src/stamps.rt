@@ -1,13 +1,11 @@
 //! What a host noted of a call.
 
-ghost use Rattle.std.specs.Prelude.{◌≡◌, ◌<◌, ◌^◌, ◌++◌, length, OnOk};
+ghost use Rattle.std.specs.Prelude.{◌≡◌, ◌++◌, OnOk};
 ghost use Rattle.std.specs.Option.{option_map};
 ghost use Rattle.kept_logs.specs.LogSeen.{stamp_seen};
-ghost use Rattle.kept_logs.specs.Stamps.{is_plain, no_stamp, stamp_at, stamp_text};
+ghost use Rattle.kept_logs.specs.Stamps.{is_plain, no_stamp, stamp_codec};
 
-use crate::fields::take_text;
-use crate::putting::put_text;
-use kept_records::{put_u64, take_u64};
+use codec::{put_text, put_u64, take_text, take_u64};
 use std::alloc::AllocError;
 
 /// What a host noted of a call (own).
@@ -31,28 +29,29 @@ impl<'a> Stamp<'a> {
     }
 }
 
-/// Whether nothing was noted.
+/// Whether nothing was noted; and what was noted fits in any case.
+#[tactic(auto, unfolding(crate::specs::Stamps::stamp_codec))]
 pub(crate) fn is_plain(stamp: &Stamp<'_>) -> bool
-    ensures { result ≡ is_plain (stamp_seen stamp.now) }
+    ensures plain { result ≡ is_plain (stamp_seen stamp.now) }
+    ensures fits { stamp_codec.Fits (stamp_seen stamp.now) }
 {
     stamp.time == 0 && stamp.reference.len() == 0
 }
 
 /// Puts what was noted.
-#[tactic(auto, unfolding(crate::specs::Stamps::stamp_text))]
+#[tactic(auto, unfolding(crate::specs::Stamps::stamp_codec))]
 pub(crate) fn put_stamp(out: &mut Vec<u8>, stamp: &Stamp<'_>) -> Result<(), AllocError>
-    ensures text { OnOk result (out.new.items ≡ out.old.items ++ stamp_text (stamp_seen stamp.now)) }
-    ensures time { stamp.now.time < 2 ^ 64 }
-    ensures reference { length stamp.now.reference.now < 2 ^ 64 }
+    ensures text { OnOk result (out.new.items ≡ out.old.items ++ stamp_codec.text (stamp_seen stamp.now)) }
+    ensures fits { stamp_codec.Fits (stamp_seen stamp.now) }
 {
     put_u64(out, stamp.time)?;
     put_text(out, stamp.reference)
 }
 
 /// What was noted, at the front, and what follows it; none where it is cut off.
-#[tactic(auto, unfolding(crate::specs::Stamps::stamp_at))]
+#[tactic(auto, unfolding(crate::specs::Stamps::stamp_codec))]
 pub(crate) fn take_stamp(bytes: &[u8]) -> Option<(Stamp<'_>, &[u8])>
-    ensures { option_map (λ taken. (stamp_seen taken.0, taken.1.now)) result ≡ stamp_at bytes.now }
+    ensures { option_map (λ taken. (stamp_seen taken.0, taken.1.now)) result ≡ stamp_codec.at bytes.now }
 {
     let (time, rest) = take_u64(bytes)?;
     let (reference, rest) = take_text(rest)?;

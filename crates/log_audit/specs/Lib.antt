@@ -34,4 +34,5 @@ pub mod Reasons
 pub mod Prices
 pub mod Telling
 pub mod LoneTelling
+pub mod TabledSeen
 pub mod Calls

@@ -21,9 +21,9 @@ use Rattle.log_audit.specs.Payments.{book_payments}
 use Rattle.log_audit.specs.Rulings.{book_rulings}
 use Rattle.log_audit.specs.Sentences.{Piece, Words, Number, Named, sentence, told_line}
 use Rattle.log_audit.specs.Tables.{journal_counted, journal_rows, names_auth}
-use Rattle.log_audit.specs.declared.lone_tables.LoneTable.{LoneTable}
-use Rattle.log_audit.specs.declared.lone_tables.LoneTable.TheVariants.{Payments, Entries, Rows, Open, Counted as CountedTable}
 use Rattle.log_audit.specs.declared.sentences.Manner.TheVariants.{Line}
+use Rattle.log_audit.specs.declared.tables.table.Table.{Table}
+use Rattle.log_audit.specs.declared.tables.table.Table.TheVariants.{Payments, Entries, Rows, Packets, Counted as CountedTable, Open}
 
 -- a log, how many calls were made before it, how many bytes its torn end has, and what it comes to by itself: its node after it, or the line that says why
 -- the node does not make it
@@ -124,19 +124,20 @@ before_row node before = node_member (codes "node") node ∷ number_member (code
 abbrev pub before_rows : Lone → List Row
 before_rows lone = cond (is_behind lone) (before_row lone.log.node lone.before ∷ []) []
 
--- the rows of a table that a node has after its log; `counted` says which authorizations are counted
-abbrev pub node_rows : Context → (Auth → Bool) → LoneTable → NodeLog → AnyNode → List Row
+-- the rows of a table that a node has after its log; `counted` says which authorizations are counted. Packets are those of a run
+abbrev pub node_rows : Context → (Auth → Bool) → Table → NodeLog → AnyNode → List Row
 node_rows ctx counted Payments log node = told_of (book_payments ctx counted) (book_of node)
 node_rows ctx counted Entries log node = told_of (journal_rows ctx) (journal_of node)
 node_rows ctx counted Rows log node = told_of book_rulings (book_of node)
+node_rows ctx counted Packets log node = []
 node_rows ctx counted Open log node = told_of (journal_open (number_of log.node) log.calls) (journal_of node)
 node_rows ctx counted CountedTable log node = told_of (journal_counted ctx) (journal_of node)
 
-abbrev pub came_rows : Context → (Auth → Bool) → LoneTable → NodeLog → Result AnyNode (List ℕ) → List Row
+abbrev pub came_rows : Context → (Auth → Bool) → Table → NodeLog → Result AnyNode (List ℕ) → List Row
 came_rows ctx counted table log (Ok node) = node_rows ctx counted table log node
 came_rows ctx counted table log (Err line) = []
 
-abbrev pub rows_of : Context → (Auth → Bool) → LoneTable → Lone → List Row
+abbrev pub rows_of : Context → (Auth → Bool) → Table → Lone → List Row
 rows_of ctx counted table lone = came_rows ctx counted table lone.log lone.came
 
 -- the payments that the node of a log counts, if it is a pharmacy
@@ -152,5 +153,5 @@ abbrev pub is_counted : Context → List Lone → Auth → Bool
 is_counted ctx lones auth = names_auth (flat_map (counted_in ctx) lones) auth
 
 -- the rows of a table that the nodes of these logs have
-abbrev pub lone_rows : Context → List Lone → LoneTable → List Row
+abbrev pub lone_rows : Context → List Lone → Table → List Row
 lone_rows ctx lones table = flat_map (rows_of ctx (is_counted ctx lones) table) lones

@@ -8,12 +8,12 @@ use Rattle.claim_model.specs.World.{World, Event, run}
 use Rattle.world_setup.specs.Seen.{settings_seen}
 use Rattle.world_setup.specs.declared.settings.WorldSettings.{WorldSettings}
 use Rattle.log_audit.specs.Senders.{senders_from}
-use Rattle.log_audit.specs.Tables.{table_csv}
+use Rattle.log_audit.specs.Tables.{table_csv, table_rows}
 use Rattle.log_audit.specs.declared.tables.table.Table.{Table}
-use Rattle.log_audit.specs.declared.tables.table.Table.TheVariants.{Payments, Entries, Rows, Packets, Counted as CountedTable}
+use Rattle.log_audit.specs.declared.tables.table.Table.TheVariants.{Payments, Entries, Rows, Packets, Counted as CountedTable, Open}
 
 abbrev pub csv_after : Context → World → List Event → Table → List ℕ
-csv_after ctx w events table = table_csv ctx (run ctx w events) (senders_from ctx w 1 events) table
+csv_after ctx w events table = table_csv (table_rows ctx (run ctx w events) (senders_from ctx w 1 events)) table
 
 -- a table of the world that events leave after the opening of these settings
 unfoldable pub run_csv : WorldSettings → List Event → Table → List ℕ
@@ -26,3 +26,4 @@ tells_senders Entries = false
 tells_senders Rows = false
 tells_senders Packets = true
 tells_senders CountedTable = false
+tells_senders Open = false

@@ -21,7 +21,7 @@ use Rattle.log_audit.specs.CountedRows.{counted_rows}
 use Rattle.log_audit.specs.Rulings.{book_rulings}
 use Rattle.log_audit.specs.Packets.{packet_rows}
 use Rattle.log_audit.specs.declared.tables.table.Table.{Table}
-use Rattle.log_audit.specs.declared.tables.table.Table.TheVariants.{Payments, Entries, Rows, Packets, Counted as CountedTable}
+use Rattle.log_audit.specs.declared.tables.table.Table.TheVariants.{Payments, Entries, Rows, Packets, Counted as CountedTable, Open}
 
 -- one of these payments has this authorization
 abbrev pub names_auth : List Counted → Auth → Bool
@@ -72,13 +72,14 @@ node_counted_rows ctx node = journal_counted ctx (journal_in node)
 abbrev pub world_counted : Context → World → List Row
 world_counted ctx w = flat_map (node_counted_rows ctx) w.pharmacies
 
--- the rows of a table of a world, where these events sent its packets
+-- the rows of a table of a world, where these events sent its packets; how long entries are open is told of logs one by one alone
 abbrev pub table_rows : Context → World → List ℕ → Table → List Row
 table_rows ctx w senders Payments = world_payments ctx w
 table_rows ctx w senders Entries = world_entries ctx w
 table_rows ctx w senders Rows = world_rulings w
 table_rows ctx w senders Packets = packet_rows ctx w.packets senders
 table_rows ctx w senders CountedTable = world_counted ctx w
+table_rows ctx w senders Open = []
 
 -- the names of the columns of a table
 abbrev pub table_names : Table → List (List ℕ)
@@ -95,6 +96,7 @@ table_names Packets = codes "packet" ∷ codes "event" ∷ codes "from" ∷ code
 table_names CountedTable =
     codes "pharmacy" ∷ codes "payer" ∷ codes "authorization" ∷ codes "cost_cents" ∷ codes "fee_cents" ∷ codes "copay_cents" ∷ codes "paid_cents" ∷
     codes "prescription" ∷ codes "fill" ∷ []
+table_names Open = codes "pharmacy" ∷ codes "number" ∷ codes "kind" ∷ codes "ticks" ∷ []
 
 -- the names of the columns of a row
 abbrev pub names_in : Row → List (List ℕ)
@@ -104,28 +106,24 @@ names_in row = map (λ (m : Member). m.name) row
 abbrev pub HasColumns : Row → Table → Type 0
 HasColumns row table = names_in row ≡ table_names table
 
--- a table as CSV: the line of its columns' names, and a line for each row
-unfoldable pub table_csv : Context → World → List ℕ → Table → List ℕ
-table_csv ctx w senders table = head_text (table_names table) ++ rows_text Csv (table_rows ctx w senders table)
+-- a table that has these rows, as CSV: the line of its columns' names, and a line for each row
+unfoldable pub table_csv : (Table → List Row) → Table → List ℕ
+table_csv rows table = head_text (table_names table) ++ rows_text Csv (rows table)
 
--- a table as a list of JSON
-abbrev pub table_json : Context → World → List ℕ → Table → List ℕ
-table_json ctx w senders table = list_text (rows_text Json (table_rows ctx w senders table))
-
--- its name there
+-- its name in JSON
 abbrev pub table_name : Table → List ℕ
 table_name Payments = codes "payments"
 table_name Entries = codes "entries"
 table_name Rows = codes "rows"
 table_name Packets = codes "packets"
 table_name CountedTable = codes "counted"
+table_name Open = codes "open"
 
 -- a table as a member of an object of JSON, after a comma
-unfoldable pub table_member : Context → World → List ℕ → Table → List ℕ
-table_member ctx w senders table = codes ",\n\"" ++ (table_name table ++ (codes "\":" ++ table_json ctx w senders table))
+unfoldable pub table_member : (Table → List Row) → Table → List ℕ
+table_member rows table = codes ",\n\"" ++ (table_name table ++ (codes "\":" ++ list_text (rows_text Json (rows table))))
 
--- all tables as members
-unfoldable pub table_members : Context → World → List ℕ → List ℕ
-table_members ctx w senders =
-    table_member ctx w senders Payments ++ (table_member ctx w senders Entries ++ (table_member ctx w senders Rows
-    ++ (table_member ctx w senders Packets ++ table_member ctx w senders CountedTable)))
+-- all tables as members, this one among them
+unfoldable pub table_members : (Table → List Row) → Table → List ℕ
+table_members rows own =
+    table_member rows Payments ++ (table_member rows Entries ++ (table_member rows Rows ++ (table_member rows own ++ table_member rows CountedTable)))

@@ -24,7 +24,7 @@ use Rattle.log_audit.specs.Sentences.{Words, Number, Named, sentence}
 use Rattle.log_audit.specs.Texts.{texts_from}
 use Rattle.log_audit.specs.Payments.{told_from}
 use Rattle.log_audit.specs.Ledger.{ledger_text}
-use Rattle.log_audit.specs.Tables.{table_members}
+use Rattle.log_audit.specs.Tables.{table_members, table_rows}
 use Rattle.log_audit.specs.Tabled.{run_csv}
 use Rattle.log_audit.specs.Prices.{run_prices}
 use Rattle.log_audit.specs.Reasons.{IsReasons}
@@ -33,6 +33,7 @@ use Rattle.table_text.specs.declared.layout.Style.TheVariants as style
 use Rattle.log_audit.specs.declared.reading.Audited.{Audited}
 use Rattle.log_audit.specs.declared.report.Form.{Form}
 use Rattle.log_audit.specs.declared.report.Form.TheVariants.{Lines, Json, Csv, Prices, Schedule}
+use Rattle.log_audit.specs.declared.tables.table.Table.TheVariants.{Packets}
 
 -- the line of a log: its node, how many calls it has, and how many bytes its torn end has
 abbrev pub log_line : NodeLog → ℕ → List ℕ
@@ -75,7 +76,7 @@ logs_member logs torn = codes "{\"logs\":" ++ list_text (rows_text style.Json (l
 
 -- all tables of what events leave, as members of an object
 unfoldable pub run_members : WorldSettings → List Event → List ℕ
-run_members s events = table_members (context_for s) (world_after s events) (senders_from (context_for s) (opening (settings_seen s)) 1 events)
+run_members s events = table_members (table_rows (context_for s) (world_after s events) (senders_from (context_for s) (opening (settings_seen s)) 1 events)) Packets
 
 abbrev pub count_member : ℕ → List ℕ
 count_member count = sentence (Words (codes ",\n\"legal\":true,\n\"events\": ") ∷ Number count ∷ [])

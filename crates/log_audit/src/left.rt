@@ -15,7 +15,7 @@ use crate::judging::LegalRun;
 use crate::ledger::put_ledger;
 use crate::outgoing::{Outgoing, TextSink};
 use crate::tables::senders::run_noting;
-use crate::tables::table::{Table, put_csv, put_json};
+use crate::tables::table::{Table, Tabled, put_csv, put_json};
 use std::alloc::Global;
 use world_core::World;
 use world_setup::{CheckedSettings, Event};
@@ -70,7 +70,7 @@ pub(crate) fn put_left_table<K: TextSink + Drop>(
     }
     let LegalRun { events, world } = run;
     match world {
-        Some(world) => Ok(put_csv(alloc, text, &world, &[], table)?),
+        Some(world) => Ok(put_csv(alloc, text, Tabled::Run(&world, &[]), table)?),
         None => put_made_table(alloc, text, settings, events.as_slice(), table),
     }
 }
@@ -85,6 +85,7 @@ pub(crate) fn tells_senders(table: Table) -> bool
         Table::Rows => false,
         Table::Packets => true,
         Table::Counted => false,
+        Table::Open => false,
     }
 }
 
@@ -100,7 +101,8 @@ fn put_made_table<K: TextSink + Drop>(
 {
     let mut world = opened(alloc, settings)?;
     let senders = run_noting(alloc, &mut world, events)?;
-    put_csv(alloc, text, &world, senders.as_slice(), table)?;
+    let tabled = Tabled::Run(&world, senders.as_slice());
+    put_csv(alloc, text, tabled, table)?;
     Ok(())
 }
 
@@ -116,7 +118,8 @@ pub(crate) fn put_left_tables<K: TextSink + Drop>(
 {
     let mut world = opened(alloc, settings)?;
     let senders = run_noting(alloc, &mut world, events)?;
-    put_json(alloc, text, &world, senders.as_slice())?;
+    let tabled = Tabled::Run(&world, senders.as_slice());
+    put_json(alloc, text, tabled, Table::Packets)?;
     Ok(())
 }
 

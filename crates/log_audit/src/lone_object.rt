@@ -5,23 +5,22 @@ ghost use Rattle.std.specs.List.{flat_map, list_any};
 ghost use Rattle.node_log.specs.LogSeen.{logs_seen};
 ghost use Rattle.world_setup.specs.Seen.{node_seen};
 ghost use Rattle.table_text.specs.Adding.{Adds, AddsRow, AddsRows};
-ghost use Rattle.table_text.specs.Rows.{list_text, rows_text};
 ghost use Rattle.table_text.specs.declared.layout.Style.TheVariants as style;
 ghost use Rattle.log_audit.specs.AloneSeen.{lone_seen, lones_seen};
-ghost use Rattle.log_audit.specs.Lones.{before_row, before_rows, is_behind, lone_rows};
-ghost use Rattle.log_audit.specs.LoneTelling.{behind_list, behind_member, lone_member, lone_members, lone_object, lone_reasons, made_members, unmade_members, verdict_members};
+ghost use Rattle.log_audit.specs.Lones.{before_row, before_rows, is_behind};
+ghost use Rattle.log_audit.specs.LoneTelling.{behind_list, behind_member, lone_object, lone_reasons, made_members, unmade_members, verdict_members};
 ghost use Rattle.log_audit.specs.Sentences.{told_lines};
 ghost use Rattle.log_audit.specs.Telling.{logs_member};
 ghost use Rattle.log_audit.specs.declared.sentences.Manner.TheVariants.{Member};
 ghost use Rattle.log_audit.specs.Outgoing.{Puts, TellsText};
 
 use crate::alone::{Came, Lone};
-use crate::lone_tables::{LoneTable, put_table};
 use crate::object::put_logs;
 use crate::outgoing::{Outgoing, TextSink};
-use crate::reading::AuditedAlone;
+use crate::reading::Audited;
 use crate::sentences::{Manner, put_told};
 use crate::tables::kinds::node_field;
+use crate::tables::table::{Table, Tabled, put_json};
 use std::alloc::{AllocError, Global};
 use table_text::{Field, Style, put_list, put_row};
 use world_setup::Node;
@@ -30,7 +29,7 @@ use world_setup::Node;
 pub(crate) fn put_object<K: TextSink + Drop>(
     alloc: Global,
     out: &mut Outgoing<K>,
-    audited: &AuditedAlone,
+    audited: &Audited,
     lones: &[Lone<'_>],
     made: bool,
 ) -> Result<(), AllocError>
@@ -154,52 +153,7 @@ fn put_made<K: TextSink + Drop>(
     ensures { TellsText out.old out.new (λ ctx. made_members ctx (lones_seen lones.now)) result }
 {
     out.put(b"true")?;
-    put_members(alloc, out, lones)
-}
-
-/// Appends all tables as members, each after a comma.
-fn put_members<K: TextSink + Drop>(
-    alloc: Global,
-    out: &mut Outgoing<K>,
-    lones: &[Lone<'_>],
-) -> Result<(), AllocError>
-    ensures { TellsText out.old out.new (λ ctx. lone_members ctx (lones_seen lones.now)) result }
-{
-    put_member(alloc, out, lones, LoneTable::Payments)?;
-    put_member(alloc, out, lones, LoneTable::Entries)?;
-    put_member(alloc, out, lones, LoneTable::Rows)?;
-    put_member(alloc, out, lones, LoneTable::Open)?;
-    put_member(alloc, out, lones, LoneTable::Counted)
-}
-
-/// Appends a table as a member of an object, after a comma.
-fn put_member<K: TextSink + Drop>(
-    alloc: Global,
-    out: &mut Outgoing<K>,
-    lones: &[Lone<'_>],
-    table: LoneTable,
-) -> Result<(), AllocError>
-    ensures { TellsText out.old out.new (λ ctx. lone_member ctx (lones_seen lones.now) table) result }
-{
-    out.put(b",\n\"")?;
-    out.put(table.name())?;
-    out.put(b"\":")?;
-    put_rows_list(alloc, out, lones, table)
-}
-
-/// Appends the rows of a table as a list.
-fn put_rows_list<K: TextSink + Drop>(
-    alloc: Global,
-    out: &mut Outgoing<K>,
-    lones: &[Lone<'_>],
-    table: LoneTable,
-) -> Result<(), AllocError>
-    ensures { TellsText out.old out.new
-        (λ ctx. list_text (rows_text style.Json (lone_rows ctx (lones_seen lones.now) table))) result }
-{
-    out.put(b"[")?;
-    put_table(alloc, out, Style::Json, lones, table)?;
-    out.end_list()
+    put_json(alloc, out, Tabled::Alone(lones), Table::Open)
 }
 
 /// Appends that a node does not make its log, and the lines that say why, as a list of texts.

@@ -6,36 +6,27 @@ ghost use Rattle.std.specs.Option.{option_copied};
 ghost use Rattle.bin_routes.specs.Table.{routes_of};
 ghost use Rattle.claim_model.specs.Bytes.{bytes_with};
 ghost use Rattle.node_log.specs.LogSeen.{log_seen, logs_seen};
-ghost use Rattle.log_audit.specs.Lones.{lone_of, lones_from, makes, rest_at};
+ghost use Rattle.log_audit.specs.Lones.{lone_of, lone_rows, lones_from, makes, rest_at};
 ghost use Rattle.log_audit.specs.Prices.{log_prices};
 ghost use Rattle.log_audit.specs.AloneSeen.{lone_seen, lones_seen};
-ghost use Rattle.log_audit.specs.LoneTelling.{all_make, lone_csv, lone_lines, lone_prices, lones_of, lones_text, alone_text, whole_lones};
+ghost use Rattle.log_audit.specs.LoneTelling.{all_make, lone_lines, lones_of, lones_text, alone_text};
 ghost use Rattle.log_audit.specs.Outgoing.{Puts, TellsText};
+ghost use Rattle.log_audit.specs.Tables.{table_csv};
 
 use crate::alone::{Lone, lone_node};
 use crate::fault::AuditFault;
 use crate::lone_lines::lines_of;
 use crate::lone_object::put_object;
-use crate::lone_tables::{LoneTable, put_csv};
 use crate::object::torn_at;
 use crate::outgoing::{Outgoing, TextSink};
 use crate::prices::log_prices;
-use crate::reading::{Audited, AuditedAlone, bytes_in};
+use crate::reading::{Audited, bytes_in};
+use crate::report::Form;
+use crate::tables::table::{Table, Tabled, put_csv};
 use kept_logs::calls_before;
 use node_log::NodeLog;
 use std::alloc::{AllocError, Global};
 use world_setup::CheckedSettings;
-
-/// How logs are told of one by one.
-#[derive(Clone, Copy, PartialEq, Eq)]
-pub enum LoneForm {
-    /// For each log a line, whether its node makes it, and what the node has.
-    Lines,
-    /// The same as one object of JSON, with all tables.
-    Json,
-    /// A table of what the nodes have, as CSV; nothing where a node does not make its log.
-    Csv(LoneTable),
-}
 
 /// Judges each log by itself, and puts what its node has after it; whether each node makes its own log. The rows of tables go
 /// out as they are made.
@@ -44,8 +35,8 @@ pub enum LoneForm {
 /// `OutOfMemory`.
 pub fn put_alone<K: TextSink + Drop>(
     alloc: Global,
-    audited: &AuditedAlone,
-    form: LoneForm,
+    audited: &Audited,
+    form: Form,
     out: &mut Outgoing<K>,
 ) -> Result<bool, AuditFault>
     // Whether each node makes its log: it accepts each call from what the log begins with, and sends with it each byte that the
@@ -62,48 +53,14 @@ pub fn put_alone<K: TextSink + Drop>(
     }
 }
 
-/// Puts the price changes of payers, as CSV, where each node makes its log, which begins with the opening of its node; whether
-/// each does.
-///
-/// # Errors
-/// `OutOfMemory`.
-pub fn put_lone_prices<K: TextSink + Drop>(
-    alloc: Global,
-    audited: &Audited,
-    out: &mut Outgoing<K>,
-) -> Result<bool, AuditFault>
-    ensures made { IfOk result (λ made. made ≡ all_make (whole_lones audited.now)) }
-    ensures text { OnOk result (Puts out.old out.new (lone_prices audited.now)) }
-{
-    let lones = whole_lones(alloc, audited)?;
-    let made = all_made(lones.as_slice());
-    match put_prices_of(alloc, audited, made, out) {
-        Ok(()) => Ok(made),
-        Err(_) => Err(AuditFault::OutOfMemory),
-    }
-}
-
 /// What each log comes to by itself.
-fn lones_of(alloc: Global, audited: &AuditedAlone) -> Result<Vec<Lone<'_>>, AuditFault>
+fn lones_of(alloc: Global, audited: &Audited) -> Result<Vec<Lone<'_>>, AuditFault>
     ensures { IfOk result (λ lones. lones_seen lones.items ≡ lones_of audited.now) }
 {
     lones_by(
         alloc,
         &audited.settings,
         audited.rests.as_slice(),
-        audited.torn.as_slice(),
-        audited.logs.as_slice(),
-    )
-}
-
-/// What each log comes to by itself, which begins with the opening of its node.
-fn whole_lones(alloc: Global, audited: &Audited) -> Result<Vec<Lone<'_>>, AuditFault>
-    ensures { IfOk result (λ lones. lones_seen lones.items ≡ whole_lones audited.now) }
-{
-    lones_by(
-        alloc,
-        &audited.settings,
-        &[],
         audited.torn.as_slice(),
         audited.logs.as_slice(),
     )
@@ -175,24 +132,31 @@ fn all_made(lones: &[Lone<'_>]) -> bool
 /// Puts what is told of logs that come to this.
 fn put_lones_text<K: TextSink + Drop>(
     alloc: Global,
-    audited: &AuditedAlone,
+    audited: &Audited,
     lones: &[Lone<'_>],
     made: bool,
-    form: LoneForm,
+    form: Form,
     out: &mut Outgoing<K>,
 ) -> Result<(), AllocError>
     ensures { TellsText out.old out.new
         (λ ctx. lones_text ctx audited.now made (lones_seen lones.now) form) result }
 {
     match form {
-        LoneForm::Lines => put_lines_of(
+        Form::Lines => put_lines_of(
             alloc,
             audited.settings.settings().pharmacies.len(),
             lones,
             out,
         ),
-        LoneForm::Json => put_object(alloc, out, audited, lones, made),
-        LoneForm::Csv(table) => put_table_of(alloc, lones, made, table, out),
+        Form::Json => put_object(alloc, out, audited, lones, made),
+        Form::Csv(table) => put_table_of(alloc, lones, made, table, out),
+        Form::Prices => put_prices_of(alloc, audited, made, out),
+        Form::Schedule => put_lines_of(
+            alloc,
+            audited.settings.settings().pharmacies.len(),
+            lones,
+            out,
+        ),
     }
 }
 
@@ -214,14 +178,14 @@ fn put_table_of<K: TextSink + Drop>(
     alloc: Global,
     lones: &[Lone<'_>],
     made: bool,
-    table: LoneTable,
+    table: Table,
     out: &mut Outgoing<K>,
 ) -> Result<(), AllocError>
     ensures { TellsText out.old out.new
-        (λ ctx. cond made (lone_csv ctx (lones_seen lones.now) table) []) result }
+        (λ ctx. cond made (table_csv (lone_rows ctx (lones_seen lones.now)) table) []) result }
 {
     if made {
-        put_csv(alloc, out, lones, table)
+        put_csv(alloc, out, Tabled::Alone(lones), table)
     } else {
         Ok(())
     }

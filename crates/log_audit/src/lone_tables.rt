@@ -10,31 +10,27 @@ ghost use Rattle.node_state.specs.Nodes.{book_of, journal_of};
 ghost use Rattle.pharmacy_journal.specs.Counting.{has_auth};
 ghost use Rattle.node_log.specs.LogSeen.{log_seen};
 ghost use Rattle.world_setup.specs.Seen.{node_seen};
-ghost use Rattle.table_text.specs.Adding.{Adds, AddsRow, AddsRows};
-ghost use Rattle.table_text.specs.Rows.{head_text};
+ghost use Rattle.table_text.specs.Adding.{AddsRow, AddsRows};
 ghost use Rattle.log_audit.specs.AloneSeen.{lone_seen, lones_seen};
 ghost use Rattle.log_audit.specs.Kinds.{number_of};
 ghost use Rattle.log_audit.specs.Ledger.{is_open};
 ghost use Rattle.log_audit.specs.Lones.{told_of, open_row, open_rows, journal_open, node_rows, rows_of, counted_in, is_counted, lone_rows};
-ghost use Rattle.log_audit.specs.LoneTelling.{lone_names, lone_csv, lone_name};
 ghost use Rattle.log_audit.specs.Payments.{book_payments};
 ghost use Rattle.log_audit.specs.Rulings.{book_rulings};
 ghost use Rattle.log_audit.specs.Tables.{Joins, names_auth, journal_counted, journal_rows};
-ghost use Rattle.log_audit.specs.Outgoing.{Puts, PutsRows, TellsText, TellsPut};
+ghost use Rattle.log_audit.specs.Outgoing.{PutsRows, TellsPut};
 
 use crate::ages::Ages;
 use crate::alone::{Came, Lone};
 use crate::ledger::is_open;
 use crate::outgoing::{Outgoing, TextSink};
-use crate::tables::columns::{
-    put_counted_names, put_entry_names, put_open_names, put_payment_names, put_row_names,
-};
 use crate::tables::counted::take_journal;
 use crate::tables::counting::put_journal_counted;
 use crate::tables::entries::put_journal;
 use crate::tables::kinds::{kind_word, number_of};
 use crate::tables::payments::put_book_payments;
 use crate::tables::rows::put_book_rulings;
+use crate::tables::table::Table;
 use claim_profile::Auth;
 use node_log::NodeLog;
 use node_state::{JournalReading, NodeState};
@@ -43,72 +39,13 @@ use std::alloc::{AllocError, Global};
 use std::collections::BTreeSet;
 use table_text::{Field, Style, put_row};
 
-/// Which table of nodes one by one.
-#[derive(Clone, Copy, PartialEq, Eq)]
-pub enum LoneTable {
-    /// Each payment of each book; counted where a pharmacy of these logs counts it.
-    Payments,
-    /// Each entry of each journal.
-    Entries,
-    /// Each transaction of each row of each book.
-    Rows,
-    /// Each entry without an answer, and how many ticks came after its submission.
-    Open,
-    /// Each payment that a pharmacy counts.
-    Counted,
-}
-
-impl LoneTable {
-    /// Its name in JSON.
-    pub(crate) fn name(self) -> &'static [u8]
-        ensures { result.now ≡ lone_name self }
-    {
-        match self {
-            LoneTable::Payments => b"payments",
-            LoneTable::Entries => b"entries",
-            LoneTable::Rows => b"rows",
-            LoneTable::Open => b"open",
-            LoneTable::Counted => b"counted",
-        }
-    }
-}
-
-/// Puts a table as CSV.
-#[tactic(auto, unfolding(crate::specs::LoneTelling::lone_csv))]
-pub(crate) fn put_csv<K: TextSink + Drop>(
-    alloc: Global,
-    out: &mut Outgoing<K>,
-    lones: &[Lone<'_>],
-    table: LoneTable,
-) -> Result<(), AllocError>
-    ensures { TellsText out.old out.new (λ ctx. lone_csv ctx (lones_seen lones.now) table) result }
-{
-    let mut names = out.piece();
-    put_names(&mut names, table)?;
-    out.put(names.as_slice())?;
-    put_table(alloc, out, Style::Csv, lones, table)
-}
-
-/// Appends the names of a table's columns.
-fn put_names(out: &mut Vec<u8>, table: LoneTable) -> Result<(), AllocError>
-    ensures { OnOk result (Adds out.old out.new (head_text (lone_names table))) }
-{
-    match table {
-        LoneTable::Payments => put_payment_names(out),
-        LoneTable::Entries => put_entry_names(out),
-        LoneTable::Rows => put_row_names(out),
-        LoneTable::Open => put_open_names(out),
-        LoneTable::Counted => put_counted_names(out),
-    }
-}
-
-/// Appends the rows of a table.
-pub(crate) fn put_table<K: TextSink + Drop>(
+/// Appends the rows of a table that the nodes of these logs have.
+pub(crate) fn put_lone_table<K: TextSink + Drop>(
     alloc: Global,
     out: &mut Outgoing<K>,
     style: Style,
     lones: &[Lone<'_>],
-    table: LoneTable,
+    table: Table,
 ) -> Result<(), AllocError>
     ensures { TellsPut style out.old out.new (λ ctx. lone_rows ctx (lones_seen lones.now) table) result }
 {
@@ -157,7 +94,7 @@ fn put_lones<K: TextSink + Drop>(
     style: Style,
     lones: &[Lone<'_>],
     counted: &BTreeSet<Auth>,
-    table: LoneTable,
+    table: Table,
 ) -> Result<(), AllocError>
     ensures { TellsPut style out.old out.new
         (λ ctx. flat_map (rows_of ctx (has_auth counted.now.keys) table) (lones_seen lones.now)) result }
@@ -175,7 +112,7 @@ fn put_lone<K: TextSink + Drop>(
     style: Style,
     lone: &Lone<'_>,
     counted: &BTreeSet<Auth>,
-    table: LoneTable,
+    table: Table,
 ) -> Result<(), AllocError>
     ensures { TellsPut style out.old out.new
         (λ ctx. rows_of ctx (has_auth counted.now.keys) table (lone_seen lone.now)) result }
@@ -194,17 +131,18 @@ fn put_node<K: TextSink + Drop>(
     log: &NodeLog,
     node: &NodeState,
     counted: &BTreeSet<Auth>,
-    table: LoneTable,
+    table: Table,
 ) -> Result<(), AllocError>
     ensures { TellsPut style out.old out.new
         (λ ctx. node_rows ctx (has_auth counted.now.keys) table (log_seen log.now) node.now) result }
 {
     match table {
-        LoneTable::Payments => put_payments(alloc, out, style, node, counted),
-        LoneTable::Entries => put_entries(alloc, out, style, node),
-        LoneTable::Rows => put_rows(alloc, out, style, node),
-        LoneTable::Open => put_open_of(alloc, out, style, log, node),
-        LoneTable::Counted => put_counted(alloc, out, style, node),
+        Table::Payments => put_payments(alloc, out, style, node, counted),
+        Table::Entries => put_entries(alloc, out, style, node),
+        Table::Rows => put_rows(alloc, out, style, node),
+        Table::Packets => Ok(()),
+        Table::Open => put_open_of(alloc, out, style, log, node),
+        Table::Counted => put_counted(alloc, out, style, node),
     }
 }
 

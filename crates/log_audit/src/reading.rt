@@ -21,13 +21,15 @@ use std::alloc::{AllocError, Global};
 use world_settings::{SettingsFault, read_living_settings};
 use world_setup::{CheckedSettings, WorldFault, WorldSettings};
 
-/// The settings of nodes, their logs, and how many bytes of a torn end each log has.
+/// The settings of nodes, their logs, how many bytes of a torn end each log has, and what each begins with where it goes on after
+/// closed ones. A log that has no place there begins with the opening of its node.
 #[derive(Drop)]
 pub struct Audited {
     pub(crate) text: Vec<u8>,
     pub(crate) settings: CheckedSettings,
     pub(crate) logs: Vec<NodeLog>,
     pub(crate) torn: Vec<usize>,
+    pub(crate) rests: Vec<Option<Vec<u8>>>,
 }
 
 /// Reads the settings, a TOML document, and each of the logs, which have the digest of its text or of what it says.
@@ -50,6 +52,8 @@ pub fn read_audited(alloc: Global, text: Vec<u8>, logs: Vec<Vec<u8>>) -> Result<
     ensures torn { IfOk result (λ audited. audited.torn.items ≡ torn_ends (digest_under text.items) (bytes_of logs.items)) }
     // A schedule begins with the very text.
     ensures text { IfOk result (λ audited. audited.text.items ≡ text.items) }
+    // No log goes on after closed ones.
+    ensures whole { IfOk result (λ audited. audited.rests.items ≡ []) }
 {
     let settings = checked(alloc, settings_of(alloc, text.as_slice())?)?;
     let digests = Digests::of(alloc, settings.settings(), text.as_slice())?;
@@ -60,6 +64,7 @@ pub fn read_audited(alloc: Global, text: Vec<u8>, logs: Vec<Vec<u8>>) -> Result<
         settings,
         logs,
         torn,
+        rests: Vec::new(alloc),
     })
 }
 
@@ -87,12 +92,14 @@ impl Audited {
         ensures text { IfOk result (λ audited. audited.text ≡ self.text) }
         ensures logs { IfOk result (λ audited. audited.logs.items ≡ self.logs.items ++ log ∷ []) }
         ensures torn { IfOk result (λ audited. audited.torn.items ≡ self.torn.items ++ 0 ∷ []) }
+        ensures rests { IfOk result (λ audited. audited.rests ≡ self.rests) }
     {
         let Audited {
             text,
             settings,
             mut logs,
             mut torn,
+            rests,
         } = self;
         logs.push(log)?;
         torn.push(0)?;
@@ -101,6 +108,7 @@ impl Audited {
             settings,
             logs,
             torn,
+            rests,
         })
     }
 }
@@ -114,41 +122,31 @@ pub struct GivenLog {
     pub log: Vec<u8>,
 }
 
-/// The settings of nodes, logs that are judged one by one, how many bytes of a torn end each has, and what each begins with.
-#[derive(Drop)]
-pub struct AuditedAlone {
-    pub(crate) settings: CheckedSettings,
-    pub(crate) logs: Vec<NodeLog>,
-    pub(crate) torn: Vec<usize>,
-    pub(crate) rests: Vec<Option<Vec<u8>>>,
-}
-
 /// Reads the settings, a TOML document, and logs of which each may go on after closed ones that are not read.
 /// The bytes of a log are let go once it is read.
 ///
 /// # Errors
 /// Those of `read_audited`.
-pub fn read_alone(
-    alloc: Global,
-    text: &[u8],
-    logs: Vec<GivenLog>,
-) -> Result<AuditedAlone, AuditFault>
+pub fn read_alone(alloc: Global, text: Vec<u8>, logs: Vec<GivenLog>) -> Result<Audited, AuditFault>
     // What is judged is what the text spells and the logs are.
-    ensures given { IfOk result (λ a. IsReadAlone text.now (given_of logs.items) a.settings
+    ensures given { IfOk result (λ a. IsReadAlone text.items (given_of logs.items) a.settings
         (logs_seen a.logs.items) (rests_seen a.rests.items) a.torn.items) }
     // A world takes the settings.
     ensures taken { IfOk result (λ a. world_fault a.settings ≡ None) }
     // References are as above, with those before the log.
-    ensures named { OnOk result (misnamed_given text.now (given_of logs.items) ≡ None) }
+    ensures named { OnOk result (misnamed_given text.items (given_of logs.items) ≡ None) }
     // The cause is true, and those before it do not stand.
-    ensures refused { IfErr result (λ why. IsRefusedAlone text.now (given_of logs.items) why) }
+    ensures refused { IfErr result (λ why. IsRefusedAlone text.items (given_of logs.items) why) }
+    // The text is kept.
+    ensures text { IfOk result (λ a. a.text.items ≡ text.items) }
 {
-    let settings = checked(alloc, settings_of(alloc, text)?)?;
-    let digests = Digests::of(alloc, settings.settings(), text)?;
+    let settings = checked(alloc, settings_of(alloc, text.as_slice())?)?;
+    let digests = Digests::of(alloc, settings.settings(), text.as_slice())?;
     check_given(alloc, &digests, logs.as_slice())?;
     let (read, rests) = read_each(alloc, &digests, logs)?;
     let ReadLogs { logs, torn } = read;
-    Ok(AuditedAlone {
+    Ok(Audited {
+        text,
         settings,
         logs,
         torn,

@@ -37,13 +37,15 @@ pub struct Report {
 /// How logs are told of.
 #[derive(Clone, Copy, PartialEq, Eq)]
 pub enum Form {
-    /// A line for each log, then `one legal run of N events` and what it left, or `no legal run` and why.
+    /// A line for each log, then `one legal run of N events` and what it left, or `no legal run` and why. Of logs one by one
+    /// whether the node of each makes it, and what the node has, after its line.
     Lines,
-    /// The same as one object of JSON, with all tables of what the run left.
+    /// The same as one object of JSON, with all tables of what the run left, or of what the nodes have.
     Json,
-    /// A table of what the run left, as CSV; nothing where there is none.
+    /// A table of what the run left, or of what the nodes have, as CSV; nothing where there is none, or a node does not make its
+    /// log.
     Csv(Table),
-    /// The price changes of payers, as CSV; nothing where there is no run.
+    /// The price changes of payers, as CSV; nothing where there is no table.
     Prices,
     /// The input of a replay of the run; the lines where there is none.
     Schedule,
@@ -249,6 +251,7 @@ pub(crate) fn settings_alone(audited: Audited) -> CheckedSettings
         settings,
         logs: _,
         torn: _,
+        rests: _,
     } = audited;
     settings
 }

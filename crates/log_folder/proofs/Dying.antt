@@ -1,12 +1,12 @@
 -- What a death leaves at each moment while a log is closed.
-use Rattle.std.proofs.Common.{◌≡◌, ◌⊎◌, inl, inr, ℕ, Bool, true, false, cond, List, [], ◌∷◌, ◌++◌, take, drop, length, Option, Some, None, refl, sym, ap, ◌∙◌, subst, ◌==◌, append_assoc, append-nil}
+use Rattle.std.proofs.Common.{◌≡◌, ◌⊎◌, inl, inr, ℕ, Bool, true, false, cond, List, [], ◌∷◌, ◌++◌, take, drop, length, Some, refl, sym, ap, ◌∙◌, subst, ◌==◌, append_assoc, append-nil}
 use Rattle.std.proofs.lemmas.List.{take-append-drop}
 use Rattle.std.proofs.lemmas.Bool.{false≢true}
 use Rattle.log_turning.specs.Files.{part_in}
 use Rattle.log_turning.specs.declared.turning.Turned.{Turned}
 use Rattle.log_folder.specs.Deeds.{Deed, Plan, IsFollowed, Found, MadeNext, KeptEnd, Cut, Append, Sync, Linked, SyncNames, Exchanged}
 use Rattle.log_folder.specs.Plans.{closing_plan, closed, cut_at, exchanged, place_in}
-use Rattle.log_folder.specs.Deaths.{IsStartOf, Left, left, MayStand, IsOneOrTheOther, IsOpenStill, IsClosedBehind, new_file}
+use Rattle.log_folder.specs.Deaths.{IsStartOf, Left, left, MayStand, IsOneOrTheOther, new_file}
 use Rattle.log_folder.proofs.Following.{AtEachMoment, at_each_moment}
 
 all_of : (bytes : List ℕ) → IsStartOf bytes bytes

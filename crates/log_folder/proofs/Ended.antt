@@ -1,5 +1,5 @@
 -- What came of a log that was read, in the words of the clauses.
-use Rattle.std.proofs.Common.{◌≡◌, ◌⊎◌, inr, ℕ, List, Result, Ok, Err, IfOk, refl, sym, subst}
+use Rattle.std.proofs.Common.{◌≡◌, inr, ℕ, List, Result, Ok, Err, IfOk, refl, sym, subst}
 use Rattle.claim_model.specs.Node.{Node}
 use Rattle.log_turning.specs.Files.{part_in}
 use Rattle.log_turning.specs.Joined.{Part}

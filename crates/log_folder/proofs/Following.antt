@@ -1,5 +1,5 @@
 -- Plans that are followed.
-use Rattle.std.proofs.Common.{◌≡◌, ◌⊎◌, inl, inr, Bool, true, false, List, [], ◌∷◌, ◌++◌, refl, sym, subst}
+use Rattle.std.proofs.Common.{◌≡◌, inl, inr, true, false, List, [], ◌∷◌, ◌++◌, refl, sym, subst}
 use Rattle.log_folder.specs.Deeds.{Deed, Plan, IsFollowed, all_done}
 
 pub nothing_yet : (plan : Plan) (old new : List Deed) → new ≡ old → IsFollowed plan old new

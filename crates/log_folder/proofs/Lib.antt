@@ -3,3 +3,6 @@ pub mod Following
 pub mod Dying
 pub mod Ended
 pub mod Sound
+pub mod Standing
+pub mod Repairs
+pub mod Fronts

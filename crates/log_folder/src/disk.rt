@@ -21,7 +21,7 @@ const FAILED: u64 = 0;
 
 const MARKED: u64 = 1;
 
-const OPENED: u64 = 2;
+pub(crate) const OPENED: u64 = 2;
 
 const LOCKED: u64 = 3;
 
@@ -35,13 +35,13 @@ const KEPT_END: u64 = 7;
 
 const CUT: u64 = 8;
 
-const APPENDED: u64 = 9;
+pub(crate) const APPENDED: u64 = 9;
 
-const SYNCED: u64 = 10;
+pub(crate) const SYNCED: u64 = 10;
 
 const LINKED: u64 = 11;
 
-const SYNCED_NAMES: u64 = 12;
+pub(crate) const SYNCED_NAMES: u64 = 12;
 
 const EXCHANGED: u64 = 13;
 
@@ -316,6 +316,6 @@ fn first_bytes(alloc: Global, file: &File) -> io::Result<Vec<u8>> {
 }
 
 /// That a file was not opened.
-fn unopened() -> io::Error {
+pub(crate) fn unopened() -> io::Error {
     io::Error::new(ErrorKind::NotFound, "the log was not opened")
 }

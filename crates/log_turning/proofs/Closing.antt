@@ -44,7 +44,7 @@ none_taken : (n : ℕ) → take n (let none : List ℕ = [] in none) ≡ []
 none_taken zero = refl
 none_taken (suc n) = refl
 
-none_read : (digest : List ℕ) → kept_in digest [] ≡ Err Short
+pub none_read : (digest : List ℕ) → kept_in digest [] ≡ Err Short
 unfolding kept_in head_in
 none_read digest = refl
 
@@ -79,6 +79,15 @@ sum_length bytes = refl
 rest_fits : (node : Node) (calls : ℕ) (closed : List ℕ) (references : List Reference) (kept : List ℕ) → FitsNode node → calls < 2 ^ 64 → length references < 2 ^ 64 → AllByRecursion FitsReference references → FitsRest (rest_of node calls closed references kept)
 rest_fits node calls closed references kept fits small few each = record { node = fits; calls = small; closed = sum_length closed; count = few; references = each }
 
+-- from it the settings make the node that left it
+pub goes_on : (node : Node) (calls : ℕ) (closed : List ℕ) (s : Serving) (kept begun : List ℕ) → s.node ≡ node → IsStarted s kept → FitsNode node → calls < 2 ^ 64 → length s.references < 2 ^ 64 → AllByRecursion FitsReference s.references
+    → begun ≡ rest_text (rest_of node calls closed s.references kept) → begins s.settings node (Some begun) ≡ Some s.state
+goes_on node calls closed s kept begun named started fits small few each is =
+    let names = rest_of node calls closed s.references kept in
+    let own = rest_fits node calls closed s.references kept fits small few each in
+    let stands : resumed (settings_seen s.settings) node kept ≡ Some s.state = ap (λ (n : Node). resumed (settings_seen s.settings) n kept) (sym named) ∙ started in
+    ap (λ (text : List ℕ). begins s.settings node (Some text)) is ∙ begins_back s.settings names s.state own stands
+
 -- ---- all of it
 
 pub is_turned : (text : List ℕ) (node : Node) (rest : Option (List ℕ)) (bytes : List ℕ) (turned : Turned) (s : Serving) (kept : List ℕ) → Serves text node rest bytes turned.kept s → IsStarted s kept → turned.closing.items ≡ s.records
@@ -87,7 +96,6 @@ pub is_turned : (text : List ℕ) (node : Node) (rest : Option (List ℕ)) (byte
 is_turned text node rest bytes turned s kept is started closing fits small few each begins_with counted new =
     let names = rest_of node turned.calls (take turned.kept bytes ++ s.records) s.references kept in
     let own = rest_fits node turned.calls (take turned.kept bytes ++ s.records) s.references kept fits small few each in
-    let stands : resumed (settings_seen s.settings) node kept ≡ Some s.state = ap (λ (n : Node). resumed (settings_seen s.settings) n kept) (sym is.named) ∙ started in
     record {
       last = s;
       spells = is.spells;
@@ -100,7 +108,7 @@ is_turned text node rest bytes turned s kept is started closing fits small few e
       ends = is.ends;
       file = ap (λ (more : List ℕ). take turned.kept bytes ++ more) closing ∙ is.served.text;
       served = is.served;
-      goes_on = ap (λ (text : List ℕ). begins s.settings node (Some text)) begins_with ∙ begins_back s.settings names s.state own stands;
+      goes_on = goes_on node turned.calls (take turned.kept bytes ++ s.records) s kept turned.rest.items is.named started fits small few each begins_with;
       next = new.next;
       spelled = new.spelled;
       begun = new.begun;

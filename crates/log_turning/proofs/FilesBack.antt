@@ -2,7 +2,8 @@
 use Rattle.std.proofs.Common.{◌≡◌, ℕ, ◌<◌, ◌^◌, List, ◌++◌, length, Some, refl, sym, ap, ◌∙◌, append_assoc}
 use Rattle.std.specs.Int.{w64, to_be_bytes}
 use Rattle.kept_logs.specs.Fields.{text_of, text_at}
-use Rattle.kept_logs.proofs.FieldsBack.{bytes_at-put, text_at-put}
+use Rattle.codec.proofs.FieldsBack.{bytes_at-put}
+use Rattle.kept_logs.proofs.FieldsBack.{text_at-put}
 use Rattle.log_turning.specs.Files.{file_name, file_text, named_in, part_in, split_in}
 
 text_back : (text behind : List ℕ) → length text < 2 ^ 64 → text_at (to_be_bytes w64 (length text) ++ (text ++ behind)) ≡ Some (text, behind)

@@ -1,5 +1,6 @@
 pub mod Lines
 pub mod Closing
+pub mod Unturned
 pub mod GoingOn
 pub mod Parts
 pub mod Compared

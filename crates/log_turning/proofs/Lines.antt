@@ -83,7 +83,7 @@ made_ends : (stamp : Stamp) (call : Call) (o : Outcome AnyNode) → (call ≡ St
 made_ends stamp call (Done next sent) is = (is, tt)
 made_ends stamp call (Refused why) is = tt
 
-stop_asks : asked_of (codes "stop") ≡ Some (Calls (plain_call_of call.Stop))
+pub stop_asks : asked_of (codes "stop") ≡ Some (Calls (plain_call_of call.Stop))
 unfolding asked_of noted_of named_of call_of
 stop_asks = refl
 

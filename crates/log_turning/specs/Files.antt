@@ -1,9 +1,9 @@
 -- The file of a log: the log alone, or after what it begins with.
 use Rattle.std.specs.Prelude.{ℕ, cond, bytes_eq, List, [], ◌∷◌, ◌++◌, length, codes, Option, Some, None}
 use Rattle.std.specs.Int.{w64, to_be_bytes}
-use Rattle.kept_records.specs.Fields.{u64_at}
-use Rattle.kept_records.specs.Options.{◌>>=◌}
-use Rattle.kept_logs.specs.Fields.{bytes_at, text_at}
+use Rattle.codec.specs.Fields.{bytes_at, u64_at}
+use Rattle.codec.specs.Options.{◌>>=◌}
+use Rattle.kept_logs.specs.Fields.{text_at}
 use Rattle.log_turning.specs.Joined.{Part}
 
 -- the name and the version of the file of a log that goes on after closed ones

@@ -4,7 +4,7 @@ use Rattle.std.specs.Option.{option_map}
 use Rattle.std.specs.Global.{Vec}
 use Rattle.claim_model.specs.Node.{Node}
 use Rattle.kept_logs.specs.Rests.{Rest, rest_in}
-use Rattle.kept_records.specs.Options.{◌>>=◌}
+use Rattle.codec.specs.Options.{◌>>=◌}
 use Rattle.log_turning.specs.Files.{part_in}
 use Rattle.log_turning.specs.Joined.{IsJoined, Part}
 use Rattle.log_turning.specs.Left.{AreLeft, IsUnleft}

@@ -31,6 +31,11 @@ impl From<AllocError> for TurnFault {
 }
 
 impl From<ServiceFault> for TurnFault {
+    ghost use Rattle.std.specs.Prelude.{◌≡◌};
+    ghost use Rattle.log_turning.specs.Unturned.{turn_fault};
+
+    ghost from_gives = { λ fault e. e ≡ turn_fault fault };
+
     fn from(fault: ServiceFault) -> TurnFault {
         match fault {
             ServiceFault::OutOfMemory => TurnFault::OutOfMemory,

@@ -6,7 +6,7 @@ ghost use Rattle.log_turning.specs.Files.{file_text, named_in, part_in, size_in,
 ghost use Rattle.log_turning.specs.Joined.{part_seen};
 
 use crate::joining::Part;
-use kept_records::{put_u64, take_u64};
+use codec::{put_u64, take_u64};
 use std::alloc::{AllocError, Global};
 
 /// The bytes that begin the file of a log that goes on after closed ones: its name and its version (own).
@@ -55,7 +55,7 @@ pub fn part_of(bytes: &[u8]) -> Part<'_>
 }
 
 /// The rest, and the log after it.
-#[tactic(auto, unfolding(crate::specs::Files::split_in, kept_logs::specs::Fields::text_at, kept_logs::specs::Fields::bytes_at))]
+#[tactic(auto, unfolding(crate::specs::Files::split_in, kept_logs::specs::Fields::text_at, codec::specs::Fields::bytes_at))]
 fn split(bytes: &[u8]) -> Option<(&[u8], &[u8])>
     ensures { option_map (λ parts. (parts.0.now, parts.1.now)) result ≡ split_in bytes.now }
 {
@@ -68,7 +68,7 @@ fn split(bytes: &[u8]) -> Option<(&[u8], &[u8])>
 }
 
 /// What follows the name and the version.
-#[tactic(auto, unfolding(crate::specs::Files::named_in, kept_logs::specs::Fields::bytes_at))]
+#[tactic(auto, unfolding(crate::specs::Files::named_in, codec::specs::Fields::bytes_at))]
 fn named(bytes: &[u8]) -> Option<&[u8]>
     ensures { option_map (λ behind. behind.now) result ≡ named_in bytes.now }
 {

@@ -1,6 +1,6 @@
 //! A log that is closed, and the one in which its node goes on.
 
-ghost use Rattle.std.specs.Prelude.{◌≡◌, ℕ, ◌++◌, List, take, Option, IfOk, OnOk};
+ghost use Rattle.std.specs.Prelude.{◌≡◌, ℕ, ◌++◌, true, List, take, Option, IfErr, IfOk, OnOk};
 ghost use Rattle.std.specs.Option.{option_copied};
 ghost use Rattle.std.specs.List.{AllByRecursion};
 ghost use Rattle.sha2.specs.Sha256.{sha256};
@@ -8,6 +8,9 @@ ghost use Rattle.world_setup.specs.Seen.{node_seen};
 ghost use Rattle.claim_model.specs.Node as model;
 ghost use Rattle.node_service.specs.Lines.{line_kept};
 ghost use Rattle.node_service.specs.Serving.{after_line};
+ghost use Rattle.node_state.specs.Resting.{is_down};
+ghost use Rattle.log_turning.specs.declared.fault.TurnFault.TheVariants.{OutOfMemory};
+ghost use Rattle.log_turning.specs.Unturned.{CanGoOn, IsUnclosed, IsUnended, IsUnserved, IsUnstarted, IsUnturned};
 ghost use Rattle.log_turning.specs.Turned.{IsClosed, IsEnd, IsNew, IsStarted, IsTurned, Serves, ServesOn};
 
 use crate::fault::TurnFault;
@@ -38,7 +41,8 @@ pub struct Turned {
 /// that was at rest stops again as the first call of the new log. Neither log gets any other call.
 ///
 /// # Errors
-/// `Refused` where the node is not served from the log, as `Service::open` says.
+/// `Refused` where the node is not served from the log, as `Service::open` says; `NoRecord` where it has made more calls than 64 bits
+/// count, or once stopped is no node of its settings.
 pub fn turn_log(
     alloc: Global,
     text: &[u8],
@@ -46,8 +50,10 @@ pub fn turn_log(
     rest: Option<&[u8]>,
     bytes: &[u8],
 ) -> Result<Turned, TurnFault>
-    ensures { IfOk result (λ turned.
+    ensures turned { IfOk result (λ turned.
         IsTurned text.now (node_seen node) (option_copied rest.entry) bytes.now turned) }
+    ensures refused { IfErr result (λ why.
+        IsUnturned text.now (node_seen node) (option_copied rest.entry) bytes.now why) }
 {
     let Closed {
         kept,
@@ -106,7 +112,10 @@ fn close_log(
     rest: Option<&[u8]>,
     bytes: &[u8],
 ) -> Result<Closed, TurnFault>
-    ensures { IfOk result (λ closed. IsClosed text.now (node_seen node) (option_copied rest.entry) bytes.now closed) }
+    ensures closed { IfOk result (λ closed.
+        IsClosed text.now (node_seen node) (option_copied rest.entry) bytes.now closed) }
+    ensures refused { IfErr result (λ why.
+        IsUnclosed text.now (node_seen node) (option_copied rest.entry) bytes.now why) }
 {
     let (service, kept) = open(alloc, text, node, rest, bytes)?;
     end_log(alloc, service, kept)
@@ -114,9 +123,12 @@ fn close_log(
 
 /// Closes the log of the node that is served, of whose bytes this many stay.
 pub(crate) fn end_log(alloc: Global, service: Service, kept: usize) -> Result<Closed, TurnFault>
-    ensures { (text : List ℕ) (node : model.Node) (rest : Option (List ℕ)) (bytes : List ℕ)
+    ensures closed { (text : List ℕ) (node : model.Node) (rest : Option (List ℕ)) (bytes : List ℕ)
         → Serves text node rest bytes kept service
         → IfOk result (λ closed. IsClosed text node rest bytes closed) }
+    ensures refused { (text : List ℕ) (node : model.Node) (rest : Option (List ℕ)) (bytes : List ℕ)
+        → Serves text node rest bytes kept service
+        → IfErr result (λ why. IsUnended text node rest bytes why) }
 {
     let mut service = service;
     let was_up = stop(alloc, &mut service)?;
@@ -140,8 +152,10 @@ fn open(
     rest: Option<&[u8]>,
     bytes: &[u8],
 ) -> Result<(Service, usize), TurnFault>
-    ensures { IfOk result (λ opened.
+    ensures serves { IfOk result (λ opened.
         Serves text.now (node_seen node) (option_copied rest.entry) bytes.now opened.1 opened.0) }
+    ensures refused { IfErr result (λ why.
+        IsUnserved text.now (node_seen node) (option_copied rest.entry) bytes.now why) }
 {
     match Service::open(alloc, &HashKeys::fixed(), text, node, rest, bytes) {
         Ok(opened) => Ok(opened),
@@ -160,7 +174,8 @@ fn ask(alloc: Global, service: &mut Service, line: &[u8]) -> Result<(), AllocErr
 
 /// Stops the node where it is up, and says whether it was.
 fn stop(alloc: Global, service: &mut Service) -> Result<bool, AllocError>
-    ensures { OnOk result (ServesOn service.old service.new) }
+    ensures on { OnOk result (ServesOn service.old service.new) }
+    ensures down { OnOk result (is_down service.new.state ≡ true) }
 {
     if service.record_at_rest().is_some() {
         return Ok(false);
@@ -173,6 +188,7 @@ fn stop(alloc: Global, service: &mut Service) -> Result<bool, AllocError>
 fn start(alloc: Global, service: &mut Service) -> Result<Vec<u8>, TurnFault>
     ensures on { OnOk result (ServesOn service.old service.new) }
     ensures started { IfOk result (λ kept. IsStarted service.new kept.items) }
+    ensures refused { IfErr result (λ why. IsUnstarted service.old why) }
 {
     let Some(record) = service.record_at_rest() else {
         return Err(TurnFault::NoRecord);
@@ -190,7 +206,8 @@ fn begun(
     rest: &[u8],
     stays_up: bool,
 ) -> Result<Vec<u8>, TurnFault>
-    ensures { IfOk result (λ log. IsNew text.now (node_seen node) rest.now log.items) }
+    ensures new { IfOk result (λ log. IsNew text.now (node_seen node) rest.now log.items) }
+    ensures refused { CanGoOn text.now (node_seen node) rest.now → IfErr result (λ why. why ≡ OutOfMemory) }
 {
     let (mut service, _) = open(alloc, text, node, Some(rest), b"")?;
     records_of(alloc, &mut service, stays_up)
@@ -200,6 +217,7 @@ fn begun(
 fn records_of(alloc: Global, service: &mut Service, stays_up: bool) -> Result<Vec<u8>, TurnFault>
     ensures on { OnOk result (ServesOn service.old service.new) }
     ensures records { IfOk result (λ records. records.items ≡ service.new.records) }
+    ensures refused { IfErr result (λ why. why ≡ OutOfMemory) }
 {
     if !stays_up {
         ask(alloc, service, b"stop")?;

@@ -1,5 +1,5 @@
 -- The message that a description in JSON tells by its parts.
-use Rattle.std.specs.Prelude.{◌≡◌, ℕ, ◌+◌, ◌==◌, ◌&&◌, Bool, List, [], ◌∷◌, ◌++◌, length, drop, slice_index, codes, bytes_eq, Option, Some, None, is_some, option_map, cond, if◌then◌else◌}
+use Rattle.std.specs.Prelude.{◌≡◌, ℕ, zero, suc, ◌+◌, ◌==◌, ◌&&◌, Bool, List, [], ◌∷◌, ◌++◌, length, drop, slice_index, codes, bytes_eq, Option, Some, None, is_some, option_map, cond, if◌then◌else◌}
 use Rattle.std.specs.List.{list_any}
 use Rattle.std.specs.Option.{option_eq}
 use Rattle.std.specs.Result.{result_ok}
@@ -120,6 +120,16 @@ abbrev pub DescribesAlike : Option Items → Option Items → Type 0
 DescribesAlike (Some parts) (Some others) = AreAlike parts others
 DescribesAlike (Some parts) None = ⊥
 DescribesAlike None others = ⊥
+
+-- at a place, from 0, the two parts are not alike, or only one list has one there; before it all parts are alike
+abbrev pub DifferAt : ℕ → Items → Items → Type 0
+DifferAt place no_items no_items = ⊥
+DifferAt zero no_items (item other others) = Unit {0}
+DifferAt (suc place) no_items (item other others) = ⊥
+DifferAt zero (item part parts) no_items = Unit {0}
+DifferAt (suc place) (item part parts) no_items = ⊥
+DifferAt zero (item part parts) (item other others) = ¬ IsAlike part other
+DifferAt (suc place) (item part parts) (item other others) = IsAlike part other × DifferAt place parts others
 
 -- two texts are one, or neither is there
 abbrev pub same_text : Option (List ℕ) → Option (List ℕ) → Bool

@@ -1,10 +1,11 @@
 //! A description of a message, as claimdecode writes it in JSON.
 
-ghost use Rattle.std.specs.Prelude.{◌≡◌, Some, None, IsTrue, IfOk, IfErr, OnOk};
+ghost use Rattle.std.specs.Prelude.{◌≡◌, Some, None, IsTrue, IfOk, IfErr, OnOk, IsUtf8};
 ghost use Rattle.std.specs.Option.{option_map};
 ghost use Rattle.serde_json.specs.Find.{get_item};
 ghost use Rattle.serde_json.specs.Read.{read};
 ghost use Rattle.serde_json.specs.View.{items_view, view};
+ghost use Rattle.message_encoding.specs.declared.fault.ReadFault.TheVariants.{NotJson};
 ghost use Rattle.message_encoding.specs.Parts.{AreAlike, DescribesAlike, IsAlike, first_unlike, is_alike, joined, part_bytes, parts_in, same_text, seen, text_at, text_in_part, unlike_in};
 ghost use Rattle.message_encoding.specs.Refused.{GivesAll, GivesMessage, RefusedFor};
 
@@ -25,7 +26,8 @@ impl Described {
     /// # Errors
     /// `NotJson` where it spells no JSON; `OutOfMemory`.
     pub fn read(alloc: Global, text: &[u8]) -> Result<Described, ReadFault>
-        ensures { IfOk result (λ described. read text.now ≡ Some (seen described)) }
+        ensures read { IfOk result (λ described. read text.now ≡ Some (seen described)) }
+        ensures none { IfErr result (λ why. why ≡ NotJson → IsUtf8 text.now → read text.now ≡ None) }
     {
         match Value::from_slice(alloc, text) {
             Ok(value) => Ok(Described { value }),

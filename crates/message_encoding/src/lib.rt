@@ -8,4 +8,4 @@ mod parts;
 
 pub use described::Described;
 pub use fault::{Misfit, PartFault, ReadFault};
-pub use laws::parts_read_back;
+pub use laws::{first_other_laws, parts_read_back};

@@ -1,8 +1,8 @@
 -- All that is found of a message, group by group.
-use Rattle.std.proofs.Common.{◌≡◌, ℕ, Bool, List, [], ◌∷◌, ◌++◌, Option, refl, sym, ap, ◌∙◌}
+use Rattle.std.proofs.Common.{ℕ, List, [], ◌∷◌, ◌++◌, Option, refl, sym, ap, ◌∙◌}
 use Rattle.std.proofs.lemmas.List.{append_assoc, append-nil}
 use Rattle.message_words.specs.declared.finding_page.FindingPage.{FindingPage}
-use Rattle.message_words.specs.AllFound.{AreGroups, FindsGroups, Group, groups_started, groups_text}
+use Rattle.message_words.specs.AllFound.{FindsGroups, Group, groups_started, groups_text}
 use Rattle.message_words.specs.Sayings.{Finds, Said, all_said, started_with}
 
 -- what is found of one transmission, of which the place is noted

@@ -13,7 +13,7 @@ pub spaces_front : (count : ℕ) → take count (spaces 128) ≡ spaces (min cou
 spaces_front count =
     sym (take_min (spaces 128) count (min count 128) (ap (min count) (sym (length-replicate {A = ℕ} 128 32)))) ∙ take-replicate (min count 128) 128 32 (omega arith)
 
-both_true : (a b : Bool) → (a && b) ≡ true → (a ≡ true) × (b ≡ true)
+pub both_true : (a b : Bool) → (a && b) ≡ true → (a ≡ true) × (b ≡ true)
 both_true true true e = (refl, refl)
 both_true true false e = absurd (false≢true e)
 both_true false b e = absurd (false≢true e)

@@ -23,3 +23,7 @@ pub mod Envelopes
 pub mod Rulings
 pub mod RecordParts
 pub mod RecordLaws
+pub mod Filling
+pub mod Objects
+pub mod PlainNames
+pub mod ReadBack

@@ -1,5 +1,5 @@
 -- Rows of parts, and a whole description.
-use Rattle.std.proofs.Common.{◌≡◌, ◌≤◌, ℕ, suc, ◌+◌, ◌-◌, ◌||◌, Bool, true, false, List, [], ◌∷◌, ◌++◌, length, take, drop, min, codes, Option, refl, sym, ap, subst, ◌∙◌, arith}
+use Rattle.std.proofs.Common.{◌≡◌, ◌≤◌, ℕ, suc, ◌+◌, ◌-◌, ◌||◌, Bool, true, false, List, [], ◌∷◌, ◌++◌, length, take, drop, min, codes, refl, sym, ap, subst, ◌∙◌, arith}
 use Rattle.std.proofs.lemmas.List.{append_assoc, append-nil, take-append-le, take_all, length-append, length-take, length-drop, length-replicate, drop-replicate, replicate-append-replicate}
 use Rattle.std.proofs.lemmas.Bool.{false≢true}
 use Rattle.message_words.specs.declared.dissecting.Carried.{Carried}

@@ -1,5 +1,5 @@
 -- Codes in strings.
-use Rattle.std.proofs.Common.{◌≡◌, ℕ, List, ◌++◌, sym, ap, ◌∙◌, subst}
+use Rattle.std.proofs.Common.{ℕ, List, ◌++◌, sym, subst}
 use Rattle.std.proofs.lemmas.List.Concat.{flat_map-append}
 use Rattle.message_words.specs.declared.text.Text.{Text}
 use Rattle.message_words.specs.Encoded.{json_letter, json_letters}

@@ -5,7 +5,7 @@ use Rattle.std.proofs.lemmas.Bool.{false≢true}
 use Rattle.message_words.specs.declared.finding_page.FindingPage.{FindingPage}
 use Rattle.message_words.specs.declared.page.Style.{Style}
 use Rattle.message_words.specs.declared.text.Text.{Text}
-use Rattle.message_words.specs.Sayings.{AreSaid, Begins, Finds, IsTaken, Said, all_said, finding_text, said_text, says, started_with, within_words}
+use Rattle.message_words.specs.Sayings.{Begins, Finds, Said, all_said, finding_text, said_text, says, started_with, within_words}
 use Rattle.message_words.specs.Written.{Takes}
 
 -- ---- one finding

@@ -1,6 +1,5 @@
 -- What is said of a transmission that is not framed, and of an envelope.
-use Rattle.std.specs.Prelude.{ℕ, ◌+◌, ◌-◌, ◌^◌, min, List, [], ◌++◌, length, take, drop, codes, Option, None, Some, Result, Ok, Err}
-use Rattle.std.specs.Fmt.{decimal}
+use Rattle.std.specs.Prelude.{ℕ, ◌+◌, ◌-◌, ◌^◌, min, false, List, [], ◌∷◌, ◌++◌, length, take, drop, codes, Option, None, Some, Result, Ok, Err}
 use Rattle.input_text.specs.Printing.{printed}
 use Rattle.d0_header.specs.declared.fault.HeaderFault.{HeaderFault}
 use Rattle.d0_header.specs.declared.fault.HeaderFault.TheVariants as header
@@ -14,8 +13,11 @@ use Rattle.envelope.specs.Envelope.{Opened}
 use Rattle.envelope.specs.Opening.{envelope_of}
 use Rattle.envelope.specs.Txn.{Txn}
 use Rattle.message_words.specs.declared.fault_lines.Told.{Told}
-use Rattle.message_words.specs.Encoded.{number_member, spaces, word_member}
-use Rattle.message_words.specs.Sayings.{Said, says}
+use Rattle.message_words.specs.declared.page.Style.TheVariants.{Lines, Json}
+use Rattle.message_words.specs.declared.sentences.TheConstants.{CARRIES_ANSWER, CARRIES_REQUEST, NOT_FRAMED, NOT_FRAMED_AT, NO_ENVELOPE, OTHER_COUNT, OTHER_LENGTH}
+use Rattle.message_words.specs.Encoded.{spaces}
+use Rattle.message_words.specs.Facts.{Fact, Number, Words, filled, of_row, says_of, Sentence}
+use Rattle.message_words.specs.Sayings.{Said}
 
 -- ---- the bytes around a place
 
@@ -36,13 +38,6 @@ caret_below around caret = codes "\n    " ++ around ++ (codes "\n    " ++ spaces
 -- a place of a transmission, which itself stands at a place, as far as 64 bits reach
 abbrev pub place_in : (at place : ℕ) → ℕ
 place_in at place = min (at + place) (2 ^ 64 - 1)
-
--- a fault at a place: after what is said, in the members, and below
-abbrev pub at_words : ℕ → List ℕ
-at_words here = codes ", at byte " ++ decimal here
-
-abbrev pub at_members : ℕ → (around : List ℕ) → ℕ → List ℕ
-at_members here around caret = number_member (codes "at") here ++ word_member (codes "around") around ++ number_member (codes "caret") caret
 
 -- ---- faults by their name and in words
 
@@ -79,56 +74,33 @@ framing_told (framing.BadFieldId at) = told_at (codes "BadFieldId") (codes "a fi
 framing_told (framing.EmptyGroup at) = told_at (codes "EmptyGroup") (codes "a transaction has no segment") at
 framing_told _ = told_of (codes "OutOfMemory") (codes "out of memory")
 
--- a fault of these words, in front of which others stand, in bytes that stand at a place
-unfoldable pub fault_said_at : (finding front : List ℕ) → ℕ → List ℕ → FaultTold → Option ℕ → Said
-fault_said_at finding front place bytes f None = says finding (word_member (codes "fault") f.name) (front ++ f.words)
-fault_said_at finding front place bytes f (Some at) = record {
-  name = finding;
-  members = word_member (codes "fault") f.name
-      ++ at_members (place_in at place) (shown_around at bytes) (length (shown_before at bytes));
-  words = front ++ f.words ++ at_words (place_in at place);
-  below = caret_below (shown_around at bytes) (length (shown_before at bytes));
-}
+-- what is known of a fault at a place
+abbrev pub fault_facts : FaultTold → ℕ → (around : List ℕ) → (caret : ℕ) → List Fact
+fault_facts f here around caret = Words f.name ∷ Words f.words ∷ Number here ∷ Words around ∷ Number caret ∷ []
 
-abbrev pub fault_said : (finding front : List ℕ) → ℕ → List ℕ → FaultTold → Said
-fault_said finding front place bytes f = fault_said_at finding front place bytes f f.at
+abbrev pub fault_at_said : Sentence → ℕ → List ℕ → FaultTold → ℕ → Said
+fault_at_said s place bytes f at =
+    let facts = fault_facts f (place_in at place) (shown_around at bytes) (length (shown_before at bytes)) in record {
+      name = s.name;
+      members = filled Json facts false s.json;
+      words = filled Lines facts false s.words;
+      below = caret_below (shown_around at bytes) (length (shown_before at bytes));
+    }
 
--- that the header says another count than there are groups
-unfoldable pub count_members : (said found : ℕ) → List ℕ
-count_members said found =
-    word_member (codes "fault") (codes "CountMismatch") ++ number_member (codes "said") said ++ number_member (codes "found") found
+-- a fault in bytes that stand at a place: in one sentence where it has no place, else in the other
+unfoldable pub fault_said_at : (anywhere somewhere : Sentence) → ℕ → List ℕ → FaultTold → Option ℕ → Said
+fault_said_at anywhere somewhere place bytes f None = says_of anywhere (Words f.name ∷ Words f.words ∷ [])
+fault_said_at anywhere somewhere place bytes f (Some at) = fault_at_said somewhere place bytes f at
 
-unfoldable pub count_words : (said found : ℕ) → List ℕ
-count_words said found =
-    codes "not framed: the header says " ++ decimal said ++ codes " transactions, and there are " ++ decimal found
+abbrev pub fault_said : (anywhere somewhere : Sentence) → ℕ → List ℕ → FaultTold → Said
+fault_said anywhere somewhere place bytes f = fault_said_at anywhere somewhere place bytes f f.at
 
 -- a fault of framing in bytes that stand at a place
 abbrev pub framing_said : ℕ → List ℕ → FramingFault → Said
-framing_said place bytes (framing.CountMismatch said found) = says (codes "not_framed") (count_members said found) (count_words said found)
-framing_said place bytes fault = fault_said (codes "not_framed") (codes "not framed: ") place bytes (framing_told fault)
+framing_said place bytes (framing.CountMismatch said found) = says_of (of_row OTHER_COUNT) (Number said ∷ Number found ∷ [])
+framing_said place bytes fault = fault_said (of_row NOT_FRAMED) (of_row NOT_FRAMED_AT) place bytes (framing_told fault)
 
 -- ---- envelopes
-
-unfoldable pub kind_key : Kind → List ℕ
-kind_key carries.Request = codes "request"
-kind_key carries.Answer = codes "answer"
-
-unfoldable pub kind_words : Kind → List ℕ
-kind_words carries.Request = codes "an envelope with request "
-kind_words carries.Answer = codes "an envelope with the answer to request "
-
-unfoldable pub carried_members : (key : List ℕ) → (pharmacy number : ℕ) → List ℕ
-carried_members key pharmacy number =
-    word_member (codes "carries") key ++ number_member (codes "pharmacy") pharmacy ++ number_member (codes "number") number
-
-unfoldable pub opened_members : Kind → Txn → List ℕ
-opened_members kind id = carried_members (kind_key kind) id.pharmacy id.number
-
-unfoldable pub of_pharmacy : (number pharmacy : ℕ) → List ℕ
-of_pharmacy number pharmacy = decimal number ++ (codes " of pharmacy " ++ decimal pharmacy)
-
-unfoldable pub opened_words : Kind → Txn → List ℕ
-opened_words kind id = kind_words kind ++ of_pharmacy id.number id.pharmacy
 
 abbrev pub envelope_told : EnvelopeFault → FaultTold
 envelope_told envelope.Short = told_of (codes "Short") (codes "it is shorter than the 18 bytes of a head")
@@ -136,28 +108,24 @@ envelope_told envelope.NotEnvelope = told_of (codes "NotEnvelope") (codes "it do
 envelope_told envelope.Version = told_of (codes "Version") (codes "its version is not 1")
 envelope_told envelope.Kind = told_of (codes "Kind") (codes "its kind is neither 1 nor 2")
 envelope_told envelope.ZeroNumber = told_of (codes "ZeroNumber") (codes "its pharmacy or its number is zero")
-envelope_told (envelope.Length said found) = told_of (codes "Length") (codes "what it carries has another length than it says")
-envelope_told envelope.TooLong = told_of (codes "TooLong") (codes "it carries more than 32,768 bytes")
+envelope_told _ = told_of (codes "TooLong") (codes "it carries more than 32,768 bytes")
+
+abbrev pub no_envelope : FaultTold → Said
+no_envelope f = says_of (of_row NO_ENVELOPE) (Words f.name ∷ Words f.words ∷ [])
 
 -- of another length than is said: both
-abbrev pub length_members : EnvelopeFault → List ℕ
-length_members (envelope.Length said found) = number_member (codes "said") said ++ number_member (codes "found") found
-length_members _ = []
+abbrev pub no_envelope_said : EnvelopeFault → Said
+no_envelope_said (envelope.Length said found) = says_of (of_row OTHER_LENGTH) (Number said ∷ Number found ∷ [])
+no_envelope_said fault = no_envelope (envelope_told fault)
 
-unfoldable pub length_words : EnvelopeFault → List ℕ
-length_words (envelope.Length said found) = codes ": " ++ decimal said ++ codes " said, " ++ decimal found ++ codes " found"
-length_words _ = []
-
-unfoldable pub no_envelope_members : EnvelopeFault → List ℕ
-no_envelope_members fault = word_member (codes "fault") (envelope_told fault).name ++ length_members fault
-
-unfoldable pub no_envelope_words : EnvelopeFault → List ℕ
-no_envelope_words fault = codes "no envelope: " ++ (envelope_told fault).words ++ length_words fault
+abbrev pub carries_said : Kind → Txn → Said
+carries_said carries.Request id = says_of (of_row CARRIES_REQUEST) (Number id.number ∷ Number id.pharmacy ∷ [])
+carries_said carries.Answer id = says_of (of_row CARRIES_ANSWER) (Number id.number ∷ Number id.pharmacy ∷ [])
 
 -- what a message is as an envelope, or why it is none
 abbrev pub opened_said : Result Opened EnvelopeFault → Said
-opened_said (Ok e) = says (codes "envelope") (opened_members e.kind e.id) (opened_words e.kind e.id)
-opened_said (Err fault) = says (codes "no_envelope") (no_envelope_members fault) (no_envelope_words fault)
+opened_said (Ok e) = carries_said e.kind e.id
+opened_said (Err fault) = no_envelope_said fault
 
 unfoldable pub envelope_said : List ℕ → Said
 envelope_said bytes = opened_said (envelope_of (0, 0) bytes)

@@ -17,13 +17,17 @@ pub mod Encoded
 pub mod Figures
 pub mod CodeNames
 pub mod Meanings
+pub mod Members
 pub mod Unused
 pub mod Rows
 pub mod Sayings
 pub mod Wanted
+pub mod Facts
 pub mod FaultWords
 pub mod RequestWords
 pub mod AnswerWords
 pub mod RecordWords
 pub mod AllFound
 pub mod Described
+pub mod Objects
+pub mod ReadBack

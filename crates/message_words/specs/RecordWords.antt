@@ -1,7 +1,6 @@
 -- What is said of a journal or a book at rest.
-use Rattle.std.specs.Prelude.{ℕ, ◌+◌, Bool, ◌&&◌, ◌==◌, nat_lt, List, [], ◌∷◌, ◌++◌, length, take, drop, replicate, codes, Option, None, Some, is_none, Result, Ok, Err, if◌then◌else◌}
+use Rattle.std.specs.Prelude.{ℕ, Bool, ◌&&◌, ◌==◌, nat_lt, List, [], ◌∷◌, length, take, drop, replicate, codes, Option, None, Some, is_none, Result, Ok, Err, if◌then◌else◌}
 use Rattle.std.specs.List.{list_all}
-use Rattle.std.specs.Fmt.{decimal}
 use Rattle.d0_header.specs.Field.{is_plain}
 use Rattle.d0_header.specs.Request.{request_fault, request_of}
 use Rattle.bin_routes.specs.Payer.{payer_number}
@@ -16,29 +15,20 @@ use Rattle.kept_records.specs.declared.fault.RecordFault.TheVariants as fault
 use Rattle.message_words.specs.declared.dissecting.Carried.{Carried}
 use Rattle.message_words.specs.declared.record_lines.Provider.{Provider}
 use Rattle.message_words.specs.AtRest.{is_book}
-use Rattle.message_words.specs.Encoded.{number_member}
+use Rattle.message_words.specs.declared.sentences.TheConstants.{BOOK, JOURNAL, NO_RECORD, NO_RECORD_AT}
+use Rattle.message_words.specs.Facts.{Number, of_row, says_of}
 use Rattle.message_words.specs.FaultWords.{FaultTold, fault_said, told_at, told_of}
 use Rattle.message_words.specs.Meanings.{number_in}
-use Rattle.message_words.specs.Sayings.{Said, says}
+use Rattle.message_words.specs.Sayings.{Said}
 
 -- ---- what reads well
 
--- whose it is and how many entries or rows it has, in words and as members
-abbrev pub read_words : (front : List ℕ) → (party : ℕ) → (between : List ℕ) → (count : ℕ) → List ℕ
-read_words front party between count = front ++ decimal party ++ between ++ decimal count
-
-abbrev pub read_members : (party_key : List ℕ) → (party : ℕ) → (count_key : List ℕ) → (count : ℕ) → List ℕ
-read_members party_key party count_key count = number_member party_key party ++ number_member count_key count
-
+-- whose it is, and how many entries or rows it has
 abbrev pub book_said : (payer rows : ℕ) → Said
-book_said payer rows =
-    says (codes "book") (read_members (codes "payer") payer (codes "rows") rows)
-    (read_words (codes "reads as the book of payer ") payer (codes ": rows ") rows)
+book_said payer rows = says_of (of_row BOOK) (Number payer ∷ Number rows ∷ [])
 
 abbrev pub journal_said : (pharmacy entries : ℕ) → Said
-journal_said pharmacy entries =
-    says (codes "journal") (read_members (codes "pharmacy") pharmacy (codes "entries") entries)
-    (read_words (codes "reads as the journal of pharmacy ") pharmacy (codes ": entries ") entries)
+journal_said pharmacy entries = says_of (of_row JOURNAL) (Number pharmacy ∷ Number entries ∷ [])
 
 -- ---- why a message is no record
 
@@ -54,7 +44,7 @@ record_told (fault.BadRecord at) =
 record_told (fault.NumberOrder at) = told_at (codes "NumberOrder") (codes "an entry has not the next number") at
 
 abbrev pub record_fault_said : List ℕ → RecordFault → Said
-record_fault_said bytes f = fault_said (codes "no_record") (codes "no record: ") 0 bytes (record_told f)
+record_fault_said bytes f = fault_said (of_row NO_RECORD) (of_row NO_RECORD_AT) 0 bytes (record_told f)
 
 -- a message that has no head of this many bytes that a record may have: it is too short, or names what no settings name
 abbrev pub no_head_said : ℕ → List ℕ → Said

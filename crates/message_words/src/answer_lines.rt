@@ -8,17 +8,16 @@ ghost use Rattle.message_words.specs.AnswerWords.{
   answer_said,
   answer_told,
   read_said,
-  ruling_members,
   ruling_said,
-  ruling_words,
   rulings_said,
 };
 ghost use Rattle.message_words.specs.FaultWords.{told_seen};
 ghost use Rattle.message_words.specs.Sayings.{Finds};
 
+use crate::facts::Fact;
 use crate::fault_lines::Told;
 use crate::finding_page::FindingPage;
-use crate::ruling_lines::{put_ruling_members, put_ruling_words};
+use crate::sentences::NO_ANSWER;
 use claim_profile::{AnswerFault, Ruling, read_answer};
 use d0_segments::check_response;
 use std::alloc::Global;
@@ -57,27 +56,17 @@ impl FindingPage {
         }
     }
 
-    /// Writes a ruling.
-    #[tactic(auto, using(crate::proofs::Sayings::one_said))]
-    fn ruling(&mut self, transaction: u64, ruling: &Ruling)
-        ensures { Finds (ruling_said transaction ruling.now ∷ []) self.old self.new }
-    {
-        self.begin_finding();
-        put_ruling_members(&mut self.members, transaction, ruling);
-        put_ruling_words(&mut self.note, transaction, ruling);
-        self.end_finding("ruling");
-    }
-
     /// Writes why a framed response reads as no answer.
-    #[tactic(auto, using(crate::proofs::Sayings::one_said))]
     fn answer_fault(&mut self, told: Told)
         ensures { Finds (answer_fault_said (told_seen told) ∷ []) self.old self.new }
     {
-        self.begin_finding();
-        self.members.word_member("fault", told.name.as_bytes());
-        self.note
-            .worded("framed, and reads as no answer: ", told.words.as_bytes());
-        self.end_finding("no_answer");
+        self.tell(
+            NO_ANSWER,
+            &[
+                Fact::Words(told.name.as_bytes()),
+                Fact::Words(told.words.as_bytes()),
+            ],
+        );
     }
 }
 

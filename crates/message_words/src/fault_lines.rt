@@ -1,30 +1,18 @@
 //! Transmissions that are not framed, as they are told.
 
-ghost use Rattle.std.specs.Prelude.{◌≡◌, [], ◌∷◌, ◌++◌, codes, length, min, false, Some};
-ghost use Rattle.message_words.specs.FaultWords.{
-  at_members,
-  at_words,
-  caret_below,
-  count_members,
-  count_words,
-  fault_said,
-  fault_said_at,
-  framing_said,
-  framing_told,
-  header_told,
-  place_in,
-  shown_around,
-  shown_before,
-  told_at,
-  told_of,
-  told_seen,
-};
-ghost use Rattle.message_words.specs.Encoded.{spaces, word_member};
-ghost use Rattle.message_words.specs.Sayings.{Finds, says};
+ghost use Rattle.std.specs.Prelude.{◌≡◌, [], ◌∷◌, ◌++◌, codes, length, min, false};
+ghost use Rattle.message_words.specs.Encoded.{spaces};
+ghost use Rattle.message_words.specs.Facts.{Number, Words, filled, given_row, of_row, says_of};
+ghost use Rattle.message_words.specs.FaultWords.{caret_below, fault_at_said, fault_facts, fault_said, framing_said, framing_told, header_told, place_in, shown_around, shown_before, told_at, told_of, told_seen};
+ghost use Rattle.message_words.specs.Sayings.{Finds};
 ghost use Rattle.message_words.specs.Written.{Takes};
+ghost use Rattle.message_words.specs.declared.sentences.TheConstants.{OTHER_COUNT};
 
+use crate::facts::{Fact, fill};
 use crate::finding_page::FindingPage;
+use crate::page::Style;
 use crate::part_rows::behind;
+use crate::sentences::{NOT_FRAMED, NOT_FRAMED_AT, OTHER_COUNT, Sentence};
 use crate::text::Text;
 use crate::transmissions::front_of;
 use d0_header::HeaderFault;
@@ -69,69 +57,80 @@ impl FindingPage {
             FramingFault::CountMismatch { said, found } => {
                 self.count_fault(u64::from(said), found as u64);
             }
-            _ => self.fault(
-                "not_framed",
-                "not framed: ",
-                framing_told(fault),
-                bytes,
-                place,
-            ),
+            _ => self.fault(NOT_FRAMED, NOT_FRAMED_AT, framing_told(fault), bytes, place),
         }
     }
 
     /// Writes that the header says another count than there are groups.
-    #[tactic(auto, using(crate::proofs::Sayings::one_said))]
     fn count_fault(&mut self, said: u64, found: u64)
-        ensures { Finds (says (codes "not_framed") (count_members said found) (count_words said found) ∷ []) self.old self.new }
+        ensures { Finds (says_of (of_row OTHER_COUNT) (Number said ∷ Number found ∷ []) ∷ []) self.old self.new }
     {
-        self.begin_finding();
-        put_count_members(&mut self.members, said, found);
-        put_count_words(&mut self.note, said, found);
-        self.end_finding("not_framed");
+        self.tell(OTHER_COUNT, &[Fact::Number(said), Fact::Number(found)]);
     }
 
-    /// Writes a fault under the name of its finding, after words, of bytes that stand at a place of the message.
+    /// Writes a fault, in one sentence where it has no place, else in the other; of bytes that stand at a place of the
+    /// message.
     pub(crate) fn fault(
         &mut self,
-        finding: &str,
-        front: &str,
+        anywhere: Sentence,
+        somewhere: Sentence,
         told: Told,
         bytes: &[u8],
         place: usize,
     )
-        ensures { Finds (fault_said finding.now front.now place bytes.now (told_seen told) ∷ []) self.old self.new }
+        ensures { Finds (fault_said (given_row anywhere.entry) (given_row somewhere.entry) place bytes.now
+            (told_seen told) ∷ []) self.old self.new }
     {
         match told.at {
-            Some(at) => self.fault_at(finding, front, told, bytes, Place { at, place }),
-            None => self.fault_anywhere(finding, front, told),
+            Some(at) => self.fault_at(somewhere, told, bytes, Place { at, place }),
+            None => self.fault_anywhere(anywhere, told),
         }
     }
 
     /// Writes a fault without a place.
-    #[tactic(auto, unfolding(crate::specs::FaultWords::fault_said_at), using(crate::proofs::Sayings::one_said))]
-    fn fault_anywhere(&mut self, finding: &str, front: &str, told: Told)
-        ensures { Finds (says finding.now (word_member (codes "fault") (told_seen told).name)
-            (front.now ++ (told_seen told).words) ∷ []) self.old self.new }
+    #[tactic(auto, unfolding(crate::specs::FaultWords::fault_said_at))]
+    fn fault_anywhere(&mut self, sentence: Sentence, told: Told)
+        ensures { Finds (says_of (given_row sentence.entry)
+            (Words (told_seen told).name ∷ Words (told_seen told).words ∷ []) ∷ []) self.old self.new }
     {
-        self.begin_finding();
-        self.members.word_member("fault", told.name.as_bytes());
-        self.note.worded(front, told.words.as_bytes());
-        self.end_finding(finding);
+        self.tell(
+            sentence,
+            &[
+                Fact::Words(told.name.as_bytes()),
+                Fact::Words(told.words.as_bytes()),
+            ],
+        );
     }
 
     /// Writes a fault at a place of a transmission, which itself stands at a place of the message.
     #[tactic(auto, unfolding(crate::specs::FaultWords::fault_said_at))]
-    fn fault_at(&mut self, finding: &str, front: &str, told: Told, bytes: &[u8], place: Place)
-        ensures { Finds (fault_said_at finding.now front.now place.place bytes.now (told_seen told) (Some place.at) ∷ [])
+    fn fault_at(&mut self, sentence: Sentence, told: Told, bytes: &[u8], place: Place)
+        ensures { Finds (fault_at_said (given_row sentence.entry) place.place bytes.now (told_seen told) place.at ∷ [])
             self.old self.new }
     {
         self.begin_finding();
         let here = place.here();
         let caret = self.around.show(place.at, bytes);
-        put_at_members(&mut self.members, told, here, self.around.as_slice(), caret);
-        put_at_words(&mut self.note, front, told, here);
+        put_fault_at(
+            &mut self.members,
+            Style::Json,
+            sentence.1,
+            told,
+            here,
+            self.around.as_slice(),
+            caret,
+        );
+        put_fault_at(
+            &mut self.note,
+            Style::Lines,
+            sentence.2,
+            told,
+            here,
+            self.around.as_slice(),
+            caret,
+        );
         put_caret(&mut self.below, self.around.as_slice(), caret);
-        self.end_finding(finding);
+        self.end_finding(sentence.0);
     }
 }
 
@@ -166,23 +165,26 @@ impl Text {
     }
 }
 
-/// Writes the members of a fault at a place.
-fn put_at_members(out: &mut Text, told: Told, here: u64, around: &[u8], caret: usize)
-    ensures { Takes (word_member (codes "fault") (told_seen told).name ++ at_members here around.now caret)
-        out.old out.new }
+/// Writes a text with what is known of a fault at a place.
+fn put_fault_at(
+    out: &mut Text,
+    style: Style,
+    text: &str,
+    told: Told,
+    here: u64,
+    around: &[u8],
+    caret: usize,
+)
+    ensures { Takes (filled style (fault_facts (told_seen told) here around.now caret) false text.now) out.old out.new }
 {
-    out.word_member("fault", told.name.as_bytes());
-    out.number_member("at", here);
-    out.word_member("around", around);
-    out.number_member("caret", caret as u64);
-}
-
-/// Writes what is said of a fault at a place.
-fn put_at_words(out: &mut Text, front: &str, told: Told, here: u64)
-    ensures { Takes (front.now ++ (told_seen told).words ++ at_words here) out.old out.new }
-{
-    out.worded(front, told.words.as_bytes());
-    out.numbered(", at byte ", here);
+    let facts = [
+        Fact::Words(told.name.as_bytes()),
+        Fact::Words(told.words.as_bytes()),
+        Fact::Number(here),
+        Fact::Words(around),
+        Fact::Number(caret as u64),
+    ];
+    fill(out, style, &facts, text.as_bytes());
 }
 
 /// Writes bytes around a fault, and below them a caret.
@@ -200,24 +202,6 @@ fn put_spaced(out: &mut Text, caret: usize)
     out.put("\n    ");
     out.spaces(caret);
     out.put("^");
-}
-
-/// Writes the members of two counts that differ.
-fn put_count_members(out: &mut Text, said: u64, found: u64)
-    ensures { Takes (count_members said found) out.old out.new }
-{
-    out.word_member("fault", b"CountMismatch");
-    out.number_member("said", said);
-    out.number_member("found", found);
-}
-
-/// Writes what is said of two counts that differ.
-fn put_count_words(out: &mut Text, said: u64, found: u64)
-    ensures { Takes (count_words said found) out.old out.new }
-{
-    let front = "not framed: the header says ";
-    let between = " transactions, and there are ";
-    out.two_numbers(front, said, between, found);
 }
 
 /// A fault of framing, but for that of the count.

@@ -50,14 +50,6 @@ impl Text {
         self.number(number);
     }
 
-    /// Appends words, and cents as dollars after them.
-    pub(crate) fn priced(&mut self, words: &str, cents: u32)
-        ensures { Takes (words.now ++ dollars (pos cents)) self.old self.new }
-    {
-        self.put(words);
-        self.dollars(i64::from(cents));
-    }
-
     /// Appends words, and bytes after them.
     pub(crate) fn worded(&mut self, words: &str, bytes: &[u8])
         ensures { Takes (words.now ++ bytes.now) self.old self.new }
@@ -82,31 +74,6 @@ impl Text {
         self.bytes(front);
         self.put(words);
         self.bytes(bytes);
-    }
-
-    /// Appends a number between words.
-    pub(crate) fn number_between(&mut self, front: &str, number: u64, behind: &str)
-        ensures { Takes (front.now ++ decimal number ++ behind.now) self.old self.new }
-    {
-        self.put(front);
-        self.number(number);
-        self.put(behind);
-    }
-
-    /// Appends two numbers, each after words.
-    pub(crate) fn two_numbers(&mut self, front: &str, first: u64, between: &str, second: u64)
-        ensures { Takes (front.now ++ decimal first ++ between.now ++ decimal second) self.old self.new }
-    {
-        self.number_between(front, first, between);
-        self.number(second);
-    }
-
-    /// Appends bytes twice, each after words.
-    pub(crate) fn two_worded(&mut self, front: &str, first: &[u8], between: &str, second: &[u8])
-        ensures { Takes (front.now ++ first.now ++ between.now ++ second.now) self.old self.new }
-    {
-        self.between(front, first, between);
-        self.bytes(second);
     }
 }
 

@@ -1,7 +1,7 @@
-//! What holds of all causes, and of all parts.
+//! What holds of all causes, of all parts, and of all sentences.
 
-ghost use Rattle.std.specs.Prelude.{◌≡◌, ◌<◌, ℕ, List, [], slice_index, take, Ok, Err, None};
-ghost use Rattle.std.specs.List.{AllByRecursion};
+ghost use Rattle.std.specs.Prelude.{◌≡◌, ◌<◌, ℕ, Bool, List, [], slice_index, take, Ok, Err, None, Some, true};
+ghost use Rattle.std.specs.List.{AllByRecursion, list_all};
 ghost use Rattle.d0_header.specs.Request.{Request};
 ghost use Rattle.d0_segments.specs.Parts.{SegmentParts};
 ghost use Rattle.d0_segments.specs.Framing.{framing_fault, request_kind, response_kind};
@@ -11,12 +11,19 @@ ghost use Rattle.claim_profile.specs.declared.order_reading.OrderFault.TheVarian
 ghost use Rattle.claim_profile.specs.Order.{order_of};
 ghost use Rattle.claim_model.specs.Journal.{JournalAtRest, PharmacySettings};
 ghost use Rattle.claim_model.specs.Rows.{Book, BookSettings};
+ghost use Rattle.input_text.specs.Printing.{printed};
 ghost use Rattle.kept_records.specs.Books.{book_in};
 ghost use Rattle.kept_records.specs.Journals.{journal_in};
 ghost use Rattle.message_words.specs.AtRest.{record_told};
 ghost use Rattle.message_words.specs.Causes.{causes_of, codes_told};
+ghost use Rattle.message_words.specs.Described.{description};
+ghost use Rattle.message_words.specs.declared.dissecting.MessageKind.{MessageKind};
+ghost use Rattle.message_words.specs.declared.page.Style.TheVariants.{Json};
 ghost use Rattle.message_words.specs.declared.layout.Form.TheVariants.{Request as Asked, Answer as Answered};
+ghost use Rattle.message_words.specs.Members.{is_well_formed, sentences};
+ghost use Rattle.message_words.specs.Objects.{listing_in, shown};
 ghost use Rattle.message_words.specs.Parts.{PartSeen};
+ghost use Rattle.message_words.specs.ReadBack.{message_listing};
 ghost use Rattle.message_words.specs.Standing.{Stands};
 ghost use Rattle.message_words.specs.Steps.{AreTransmission};
 
@@ -48,4 +55,18 @@ pub fn record_laws()
     ensures book { (payer : ℕ) (settings : BookSettings) (bytes : List ℕ) (b : Book)
         → ((i : ℕ) → slice_index bytes i < 256) → book_in payer settings bytes ≡ Ok b
         → AllByRecursion Stands (record_told 0 bytes).parts }
+{}
+
+/// The members of each sentence, in which the places of facts are marked, are members of an object of JSON, each after
+/// a comma: a key, and a word or a fact.
+pub fn sentence_laws()
+    ensures { list_all is_well_formed sentences ≡ true }
+{}
+
+/// From the text of a description in JSON is read again what it tells of its message and of each part: the members of
+/// its object up to the list of parts, and the members of each part. A value is told as it is printed.
+pub fn description_laws()
+    ensures read { (dropped : Bool × Bool) (line : ℕ) (kind : MessageKind) (bytes : List ℕ)
+        → listing_in (description Json dropped line kind bytes) ≡ Some (message_listing dropped line kind bytes) }
+    ensures printed { (bytes : List ℕ) → AllByRecursion (λ b. b < 256) bytes → shown (printed bytes) ≡ printed bytes }
 {}

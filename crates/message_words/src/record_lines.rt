@@ -1,6 +1,6 @@
 //! What is found of a journal or a book at rest, as it is written.
 
-ghost use Rattle.std.specs.Prelude.{◌≡◌, ◌<◌, [], ◌∷◌, ◌++◌, codes, length, IfOk, IfSome};
+ghost use Rattle.std.specs.Prelude.{◌≡◌, ◌<◌, [], ◌∷◌, length, IfOk, IfSome};
 ghost use Rattle.bin_routes.specs.Payer.{payer_number};
 ghost use Rattle.payer_book.specs.Settings.{settings_of as book_settings};
 ghost use Rattle.kept_records.specs.Books.{book_in};
@@ -18,8 +18,6 @@ ghost use Rattle.message_words.specs.RecordWords.{
   journal_under,
   no_head_said,
   party_in,
-  read_members,
-  read_words,
   record_fault_said,
   record_said,
   record_told,
@@ -27,14 +25,14 @@ ghost use Rattle.message_words.specs.RecordWords.{
   stated_settings,
 };
 ghost use Rattle.message_words.specs.Sayings.{Finds};
-ghost use Rattle.message_words.specs.Written.{Takes};
 
 use crate::dissecting::Carried;
+use crate::facts::Fact;
 use crate::fault_lines::Told;
 use crate::finding_page::FindingPage;
 use crate::part_rows::behind;
 use crate::records::{is_book, number_at};
-use crate::text::Text;
+use crate::sentences::{BOOK, JOURNAL, NO_RECORD, NO_RECORD_AT};
 use d0_header::{RequestHeader, request_text_laws};
 use kept_records::{RecordFault, read_book, read_journal};
 use payer_book::{BookAtRest, BookSettings, PayerNo};
@@ -101,20 +99,10 @@ impl FindingPage {
     }
 
     /// Writes whose book a record is, and how many rows it has.
-    #[tactic(auto, using(crate::proofs::Sayings::one_said))]
     fn book_of(&mut self, payer: u64, rows: u64)
         ensures { Finds (book_said payer rows ∷ []) self.old self.new }
     {
-        self.begin_finding();
-        put_read_members(&mut self.members, "payer", payer, "rows", rows);
-        put_read_words(
-            &mut self.note,
-            "reads as the book of payer ",
-            payer,
-            ": rows ",
-            rows,
-        );
-        self.end_finding("book");
+        self.tell(BOOK, &[Fact::Number(payer), Fact::Number(rows)]);
     }
 
     /// Writes what a journal is.
@@ -162,38 +150,18 @@ impl FindingPage {
     }
 
     /// Writes whose journal a record is, and how many entries it has.
-    #[tactic(auto, using(crate::proofs::Sayings::one_said))]
     fn journal_of(&mut self, pharmacy: u64, entries: u64)
         ensures { Finds (journal_said pharmacy entries ∷ []) self.old self.new }
     {
-        self.begin_finding();
-        put_read_members(&mut self.members, "pharmacy", pharmacy, "entries", entries);
-        let front = "reads as the journal of pharmacy ";
-        put_read_words(&mut self.note, front, pharmacy, ": entries ", entries);
-        self.end_finding("journal");
+        self.tell(JOURNAL, &[Fact::Number(pharmacy), Fact::Number(entries)]);
     }
 
     /// Writes why a message is no record.
     fn record_fault(&mut self, fault: RecordFault, bytes: &[u8])
         ensures { Finds (record_fault_said bytes.now fault ∷ []) self.old self.new }
     {
-        self.fault("no_record", "no record: ", record_told(fault), bytes, 0);
+        self.fault(NO_RECORD, NO_RECORD_AT, record_told(fault), bytes, 0);
     }
-}
-
-/// Writes whose record it is and how many entries or rows it has, as members.
-fn put_read_members(out: &mut Text, party_key: &str, party: u64, count_key: &str, count: u64)
-    ensures { Takes (read_members party_key.now party count_key.now count) out.old out.new }
-{
-    out.number_member(party_key, party);
-    out.number_member(count_key, count);
-}
-
-/// Writes the same in words.
-fn put_read_words(out: &mut Text, front: &str, party: u64, between: &str, count: u64)
-    ensures { Takes (read_words front.now party between.now count) out.old out.new }
-{
-    out.two_numbers(front, party, between, count);
 }
 
 /// Why bytes are no record.

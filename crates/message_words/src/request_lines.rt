@@ -1,37 +1,34 @@
 //! What is found of a request, as it is written.
 
-ghost use Rattle.std.specs.Prelude.{◌≡◌, ◌-◌, ◌<◌, ◌++◌, [], ◌∷◌, codes, length};
+ghost use Rattle.std.specs.Prelude.{◌≡◌, ◌-◌, ◌<◌, [], ◌∷◌, length};
 ghost use Rattle.d0_segments.specs.FramedParts.{framed_parts};
 ghost use Rattle.claim_profile.specs.Order.{placed_order};
 ghost use Rattle.message_words.specs.Causes.{cause_seen};
 ghost use Rattle.message_words.specs.Findings.{finding_seen, findings_seen, request_findings};
-ghost use Rattle.message_words.specs.Found.{found_seen};
 ghost use Rattle.message_words.specs.RequestWords.{
-  asked_members,
   asked_said,
-  asked_words,
   cause_said,
   finding_said,
   findings_said,
   left_to_tell,
   order_said,
   request_said,
-  told_said,
   transaction_of,
   uncarried_said,
   why_words,
 };
-ghost use Rattle.message_words.specs.Sayings.{Finds, says};
+ghost use Rattle.message_words.specs.Sayings.{Finds};
 
-use crate::cause_lines::{CauseTold, put_cause_members, put_cause_words};
+use crate::cause_lines::CauseTold;
 use crate::causes::Cause;
+use crate::facts::Fact;
 use crate::finding_page::FindingPage;
 use crate::findings::{Finding, Uncarried, findings_of};
 use crate::found::Found;
 use crate::names::FieldName;
-use crate::order_lines::{put_asked_members, put_asked_words};
+use crate::sentences::NOT_CARRIED;
 use crate::wanted::wanted_in;
-use claim_profile::{Order, TransactionCode, order_at};
+use claim_profile::{TransactionCode, order_at};
 use d0_header::RequestHeader;
 use d0_segments::{Framed, check_request};
 use std::alloc::Global;
@@ -97,15 +94,10 @@ impl FindingPage {
     }
 
     /// Writes why a request is not carried.
-    #[tactic(auto, using(crate::proofs::Sayings::one_said))]
     fn uncarried(&mut self, why: Uncarried)
         ensures { Finds (uncarried_said why ∷ []) self.old self.new }
     {
-        self.begin_finding();
-        self.members.word_member("why", why_words(why).as_bytes());
-        self.note
-            .worded("framed, and not carried: ", why_words(why).as_bytes());
-        self.end_finding("not_carried");
+        self.tell(NOT_CARRIED, &[Fact::Words(why_words(why).as_bytes())]);
     }
 
     /// Writes the order of the transaction of this number, where there is one.
@@ -131,18 +123,6 @@ impl FindingPage {
         }
     }
 
-    /// Writes an order.
-    #[tactic(auto, using(crate::proofs::Sayings::one_said))]
-    fn order(&mut self, transaction: u64, order: &Order)
-        ensures { Finds (says (codes "order") (asked_members transaction order.now) (asked_words transaction order.now) ∷ [])
-            self.old self.new }
-    {
-        self.begin_finding();
-        put_asked_members(&mut self.members, transaction, order);
-        put_asked_words(&mut self.note, transaction, order);
-        self.end_finding("order");
-    }
-
     /// Writes a cause for which a transaction is rejected.
     fn cause(
         &mut self,
@@ -165,18 +145,6 @@ impl FindingPage {
             }
             _ => self.cause_told(transaction as u64, told, cause.found),
         }
-    }
-
-    /// Writes a cause as it is told, where this was found.
-    #[tactic(auto, using(crate::proofs::Sayings::one_said))]
-    fn cause_told(&mut self, transaction: u64, told: CauseTold, found: Found<'_>)
-        ensures { Finds (told_said transaction told.code told.field (found_seen found.entry) told.wanted.now
-            told.is_told ∷ []) self.old self.new }
-    {
-        self.begin_finding();
-        put_cause_members(&mut self.members, transaction, told, found);
-        put_cause_words(&mut self.note, transaction, told, found);
-        self.end_finding("rejected");
     }
 }
 

@@ -60,8 +60,8 @@ all_told (w ∷ words) r = by_mark w.mark r.1 (λ rises. all_told words rises)
     by_mark zero rises more = ap (λ (xs : List ℕ). w.text ++ xs) (more rises)
     by_mark (suc n) rises more = absurd (no_mark (suc n) words (omega arith) rises)
 
-pub opened_in_order : (s : Serving) → AreInOrder (just_opened s)
-opened_in_order s = omega arith
+pub opened_in_order : (closed : ℕ) (s : Serving) → AreInOrder (just_opened closed s)
+opened_in_order closed s = omega arith
 
 pub served_in_order : (h : Hosting) (line : List ℕ) → AreInOrder h → AreInOrder (line_served h line)
 served_in_order h line is =

@@ -7,4 +7,5 @@ pub mod Rooms
 pub mod Marks
 pub mod Hostings
 pub mod InOrder
+pub mod OfFiles
 mod Judging

@@ -6,8 +6,10 @@ use Rattle.node_handle.specs.Saying.{Said}
 use Rattle.node_handle.specs.Waiting.{Waiting, all_lowered, told, untold}
 
 -- the node that is served, of which the records are those that the host has not said to be on disk; whether it has said that what the node was
--- opened from is; and what is to be written, call by call, each behind so many bytes of these records
+-- opened from is; what is to be written, call by call, each behind so many bytes of these records; and how many calls closed logs have, after which its
+-- own goes on
 pub record Hosting : Type 0 where
+  pub closed : ℕ
   pub serving : Serving
   pub synced : Bool
   pub words : List Waiting
@@ -20,13 +22,14 @@ with_records s records = record { settings = s.settings; node = s.node; version 
 abbrev pub recording : Serving → List ℕ → Serving
 recording s records = with_records (cleared s) records
 
--- a node that was just opened: nothing is known to be on disk, and nothing is to be written
-abbrev pub just_opened : Serving → Hosting
-just_opened s = record { serving = recording s s.records; synced = false; words = [] }
+-- a node that was just opened, after so many calls of closed logs: nothing is known to be on disk, and nothing is to be written
+abbrev pub just_opened : ℕ → Serving → Hosting
+just_opened closed s = record { closed = closed; serving = recording s s.records; synced = false; words = [] }
 
 -- what a line adds to it: the records come behind those that are not on disk, and the words wait for both
 abbrev pub line_added : Hosting → Serving → Hosting
 line_added h made = record {
+  closed = h.closed;
   serving = recording made (h.serving.records ++ made.records);
   synced = h.synced;
   words = h.words ++ record { mark = length (h.serving.records ++ made.records); text = made.out } ∷ [];
@@ -38,11 +41,11 @@ line_served h line = line_added h (after_line (cleared h.serving) line)
 
 -- this many bytes of the records, the first, are on disk, and what stands in the file before them; so words wait for fewer
 abbrev pub bytes_kept : ℕ → Hosting → Hosting
-bytes_kept size h = record { serving = with_records h.serving (drop size h.serving.records); synced = true; words = all_lowered size h.words }
+bytes_kept size h = record { closed = h.closed; serving = with_records h.serving (drop size h.serving.records); synced = true; words = all_lowered size h.words }
 
 -- what may be written was used
 abbrev pub words_cleared : Hosting → Hosting
-words_cleared h = record { serving = h.serving; synced = h.synced; words = untold h.words }
+words_cleared h = record { closed = h.closed; serving = h.serving; synced = h.synced; words = untold h.words }
 
 -- all that the node can tell of is on disk, as its host has said
 abbrev pub is_settled : Hosting → Bool

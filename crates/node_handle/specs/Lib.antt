@@ -7,6 +7,7 @@ pub mod Marks
 pub mod Hosting
 pub mod InOrder
 pub mod Calls
+pub mod Sharings
 pub mod Texts
 pub mod Messages
 pub mod Typed

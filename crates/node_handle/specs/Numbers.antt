@@ -1,7 +1,7 @@
 -- The numbers of what calls say.
 use Rattle.std.specs.Prelude.{◌≡◌, ℕ, Result, Ok, Err}
 use Rattle.node_handle.specs.declared.refusal.Refusal.{Refusal}
-use Rattle.node_handle.specs.declared.refusal.Refusal.TheVariants.{OutOfMemory, Closed, Open, ShortBuffer, Name, Settings, NoSuchNode, OtherNode, NotALog, LogVersion, DamagedHead, NoKind, OtherSettings, Damaged, BadRecord, BadText, Unanswered, NotFound, NoRun, Unsynced, TooMany, FieldEmpty, FieldTooLong, FieldSeparator, FieldSpace, FieldDigits, FieldDay}
+use Rattle.node_handle.specs.declared.refusal.Refusal.TheVariants.{OutOfMemory, Closed, Open, ShortBuffer, Name, Settings, NoSuchNode, OtherNode, NotALog, LogVersion, DamagedHead, NoKind, OtherSettings, Damaged, BadRecord, BadText, Unanswered, NotFound, NoRun, Unsynced, TooMany, FieldEmpty, FieldTooLong, FieldSeparator, FieldSpace, FieldDigits, FieldDay, NotARest}
 
 -- the number of what a call says: 0 of one that was made
 abbrev pub number_of : Result (Unit {0}) Refusal → ℕ
@@ -33,6 +33,7 @@ number_of (Err FieldSeparator) = 24
 number_of (Err FieldSpace) = 25
 number_of (Err FieldDigits) = 26
 number_of (Err FieldDay) = 27
+number_of (Err NotARest) = 28
 
 -- a number is that of a call's outcome, of which this holds
 abbrev pub Says : ℕ → (Result (Unit {0}) Refusal → Type 0) → Type 0

@@ -1,5 +1,5 @@
 -- Which refusal of a handle a fault is, and the place that is told with it.
-use Rattle.std.specs.Prelude.{ℕ}
+use Rattle.std.specs.Prelude.{ℕ, ◌+◌}
 use Rattle.kept_logs.specs.declared.fault.LogFault.{LogFault}
 use Rattle.kept_logs.specs.declared.fault.LogFault.TheVariants as log_fault
 use Rattle.message_making.specs.declared.judging.FieldFault.{FieldFault}
@@ -35,29 +35,29 @@ abbrev pub refusal_of : ServiceFault → Refusal
 refusal_of service.OutOfMemory = refusal.OutOfMemory
 refusal_of service.Settings = refusal.Settings
 refusal_of service.NoSuchNode = refusal.NoSuchNode
-refusal_of service.Rest = refusal.NotALog
+refusal_of service.Rest = refusal.NotARest
 refusal_of (service.Log fault) = refusal_of_log fault
 refusal_of service.OtherNode = refusal.OtherNode
 refusal_of (service.NotMade place) = refusal.BadRecord
 
--- the place of the record that a log's fault is about, or what was there before
-abbrev pub place_in_log : LogFault → ℕ → ℕ
-place_in_log log_fault.OutOfMemory before = before
-place_in_log log_fault.Short before = before
-place_in_log log_fault.NotALog before = before
-place_in_log log_fault.Version before = before
-place_in_log log_fault.DamagedHead before = before
-place_in_log log_fault.NoNode before = before
-place_in_log log_fault.OtherSettings before = before
-place_in_log (log_fault.Damaged place) before = place
-place_in_log (log_fault.BadRecord place) before = place
+-- the place of the record that a log's fault is about, in a file with this many bytes before the log; or what was there before
+abbrev pub place_in_log : LogFault → ℕ → ℕ → ℕ
+place_in_log log_fault.OutOfMemory first before = before
+place_in_log log_fault.Short first before = before
+place_in_log log_fault.NotALog first before = before
+place_in_log log_fault.Version first before = before
+place_in_log log_fault.DamagedHead first before = before
+place_in_log log_fault.NoNode first before = before
+place_in_log log_fault.OtherSettings first before = before
+place_in_log (log_fault.Damaged place) first before = first + place
+place_in_log (log_fault.BadRecord place) first before = first + place
 
 -- the same of a node that is not opened
-abbrev pub place_in : ServiceFault → ℕ → ℕ
-place_in service.OutOfMemory before = before
-place_in service.Settings before = before
-place_in service.NoSuchNode before = before
-place_in service.Rest before = before
-place_in (service.Log fault) before = place_in_log fault before
-place_in service.OtherNode before = before
-place_in (service.NotMade place) before = place
+abbrev pub place_in : ServiceFault → ℕ → ℕ → ℕ
+place_in service.OutOfMemory first before = before
+place_in service.Settings first before = before
+place_in service.NoSuchNode first before = before
+place_in service.Rest first before = before
+place_in (service.Log fault) first before = place_in_log fault first before
+place_in service.OtherNode first before = before
+place_in (service.NotMade place) first before = first + place

@@ -1,26 +1,15 @@
 //! The handle of a node.
 
-ghost use Rattle.std.specs.Prelude.{◌≡◌, drop, IfOk, IfErr, IsSome, is_some};
+ghost use Rattle.std.specs.Prelude.{◌≡◌, drop, IsSome, is_some};
 ghost use Rattle.std.specs.declared.option.Option.TheVariants.{None, Some};
-ghost use Rattle.world_setup.specs.Seen.{node_seen};
-ghost use Rattle.schedule.specs.Nodes.{node_in};
-ghost use Rattle.node_service.specs.Opened.{IsOpened};
-ghost use Rattle.node_service.specs.Serving.{Serving};
-ghost use Rattle.world_setup.specs.declared.node.Node.{Node};
-ghost use Rattle.node_handle.specs.declared.refusal.Refusal.TheVariants.{OutOfMemory};
-ghost use Rattle.node_handle.specs.Refusals.{refusal_of, place_in};
-ghost use Rattle.node_handle.specs.Hosting.{just_opened};
-ghost use Rattle.node_handle.specs.Calls.{Opens, RefusesNode, Serves, Caps, Clears, Counts, CopiesRecords, CopiesRecordsAfter, CopiesWritten, Keeps};
+ghost use Rattle.node_handle.specs.Calls.{Opens, Serves, Caps, Clears, Counts, CopiesRecords, CopiesRecordsAfter, CopiesWritten, Keeps};
 
 use crate::hosted::Hosted;
 use crate::loose::Loose;
+use crate::opening::opened;
 use crate::part::Part;
 use crate::reading::copy_out;
-use crate::refusal::{Refusal, refusal_of};
-use crate::seed::keys_of;
-use kept_logs::LogFault;
-use node_service::{Service, ServiceFault};
-use schedule::node_in;
+use crate::refusal::Refusal;
 use std::alloc::Global;
 use std::mem::replace;
 
@@ -61,7 +50,8 @@ impl NodeHandle {
         part.into_loose(alloc).into_box()
     }
 
-    /// Opens the node of this name, from its log. The maps of a payer's book hash with keys of this seed, sixteen bytes.
+    /// Opens the node of this name, from the file of its log, which may go on after closed ones; and says how many bytes of the file
+    /// stay. The maps of a payer's book hash with keys of this seed, sixteen bytes.
     ///
     /// # Errors
     /// `Open` where the handle has a node already, and what refuses the node. Then all is as it was.
@@ -70,16 +60,16 @@ impl NodeHandle {
         alloc: Global,
         settings: &[u8],
         name: &[u8],
-        log: &[u8],
+        file: &[u8],
         seed: &[u8],
         kept: &mut usize,
     ) -> Result<(), Refusal>
-        ensures { Opens self.old.part.node settings.now name.now log.now result kept.old kept.new self.new.part.node }
+        ensures { Opens self.old.part.node settings.now name.now file.now result kept.old kept.new self.new.part.node }
     {
         if self.held {
             return Err(Refusal::Open);
         }
-        match opened(alloc, settings, name, log, seed, kept) {
+        match opened(alloc, settings, name, file, seed, kept) {
             Ok(node) => {
                 self.put(node);
                 Ok(())
@@ -159,7 +149,7 @@ impl NodeHandle {
         cleared
     }
 
-    /// How many calls the node's log has.
+    /// How many calls the node's log has, and the closed ones before it.
     ///
     /// # Errors
     /// `Closed` where there is no node, `Unsynced` where not all is on disk. Then nothing changes.
@@ -264,13 +254,13 @@ impl NodeHandle {
     }
 }
 
-/// Tells how many calls a node's log has, where all is on disk.
+/// Tells how many calls a node's logs have, where all is on disk.
 fn tell_calls(node: &Hosted, calls: &mut u64) -> Result<(), Refusal>
     ensures { Counts (Some node.now) result calls.old calls.new }
 {
-    match node.settled() {
-        Ok(service) => {
-            *calls = service.calls();
+    match node.calls() {
+        Ok(all) => {
+            *calls = all;
             Ok(())
         }
         Err(why) => Err(why),
@@ -307,71 +297,5 @@ fn after(bytes: &[u8], passed: usize) -> &[u8]
     match bytes.get(passed..) {
         Some(more) => more,
         None => &[],
-    }
-}
-
-/// The node of this name, in a box; and how many bytes of its log stay, or the place of the record that is faulty.
-fn opened(
-    alloc: Global,
-    settings: &[u8],
-    name: &[u8],
-    log: &[u8],
-    seed: &[u8],
-    kept: &mut usize,
-) -> Result<Box<Hosted>, Refusal>
-    ensures opened { IfOk result (λ o. (node : Node) × (s : Serving) × ((o.value ≡ just_opened s)
-        × ((node_in name.now ≡ Some node) × IsOpened settings.now (node_seen node) None log.now kept.new s))) }
-    ensures refused { IfErr result (λ why. RefusesNode settings.now name.now log.now why kept.old kept.new) }
-{
-    let Some(node) = node_in(name) else {
-        return Err(Refusal::Name);
-    };
-    match Service::open(alloc, &keys_of(seed), settings, node, None, log) {
-        Ok((service, stay)) => boxed(alloc, service, stay, kept),
-        Err(fault) => Err(told(fault, kept)),
-    }
-}
-
-/// A node in a box, and how many bytes of its log stay.
-fn boxed(
-    alloc: Global,
-    service: Service,
-    stay: usize,
-    kept: &mut usize,
-) -> Result<Box<Hosted>, Refusal>
-    ensures boxed { IfOk result (λ o. (o.value ≡ just_opened service) × (kept.new ≡ stay)) }
-    ensures refused { IfErr result (λ why. (why ≡ OutOfMemory) × (kept.new ≡ kept.old)) }
-{
-    let Ok(node) = Hosted::of(alloc, service) else {
-        return Err(Refusal::OutOfMemory);
-    };
-    match Box::new(alloc, node) {
-        Ok(node) => {
-            *kept = stay;
-            Ok(node)
-        }
-        Err(_) => Err(Refusal::OutOfMemory),
-    }
-}
-
-/// The refusal of a fault, with the place of the record that it is about.
-fn told(fault: ServiceFault, kept: &mut usize) -> Refusal
-    ensures refusal { result ≡ refusal_of fault }
-    ensures place { kept.new ≡ place_in fault kept.old }
-{
-    match fault {
-        ServiceFault::Log(LogFault::Damaged(place)) => {
-            *kept = place;
-            Refusal::Damaged
-        }
-        ServiceFault::Log(LogFault::BadRecord(place)) => {
-            *kept = place;
-            Refusal::BadRecord
-        }
-        ServiceFault::NotMade(place) => {
-            *kept = place;
-            Refusal::BadRecord
-        }
-        other => refusal_of(other),
     }
 }

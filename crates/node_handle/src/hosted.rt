@@ -20,6 +20,8 @@ use std::marker::Model;
 pub struct Hosted {
     /// What it has in its lists of records and of words is the last line's, and stands below as well.
     service: Service,
+    /// How many calls closed logs have, after which its own goes on.
+    closed: u64,
     /// The records that the host has not said to be on disk.
     records: Vec<u8>,
     /// How many bytes of records came before those.
@@ -38,25 +40,30 @@ impl Model for Hosted {
     ghost Value = { Hosting };
 
     ghost view = { λ h. record {
+      closed = h.closed;
       serving = recording h.service h.records.items;
       synced = h.synced;
       words = all_lowered h.kept h.words;
     } };
 
-    ghost invariant = { λ h. h.kept + length h.records.items < 2 ^ 64 };
+    ghost invariant = { λ h. (h.kept + length h.records.items < 2 ^ 64) × (h.closed + h.service.calls < 2 ^ 64) };
 }
 
 impl Hosted {
-    /// A node that was just opened. Its host has said nothing yet.
+    /// A node that was just opened, whose closed logs have this many calls. Its host has said nothing yet.
     ///
     /// # Errors
-    /// Memory was refused.
-    pub(crate) fn of(alloc: Global, service: Service) -> Result<Hosted, AllocError>
-        ensures { IfOk result (λ h. h ≡ just_opened service) }
+    /// Memory was refused, or no number says how many calls there were.
+    pub(crate) fn of(alloc: Global, closed: u64, service: Service) -> Result<Hosted, AllocError>
+        ensures { IfOk result (λ h. h ≡ just_opened closed service) }
     {
+        if closed.checked_add(service.calls()).is_none() {
+            return Err(AllocError);
+        }
         let records = Vec::from_slice(alloc, service.records())?;
         Ok(Hosted {
             service,
+            closed,
             records,
             kept: 0,
             synced: false,
@@ -78,6 +85,7 @@ impl Hosted {
             &mut self.records,
             &mut self.words,
             self.kept,
+            self.closed,
             line,
         ) {
             Ok(()) => Ok(()),
@@ -85,6 +93,7 @@ impl Hosted {
                 // Nobody knows what the node has by now.
                 self.records.clear();
                 self.kept = 0;
+                self.closed = u64::MAX - self.service.calls();
                 self.synced = false;
                 Err(refused)
             }
@@ -163,6 +172,22 @@ impl Hosted {
         }
     }
 
+    /// How many calls it has made, those of closed logs among them: where all is on disk.
+    ///
+    /// # Errors
+    /// `Unsynced` where it is not.
+    pub(crate) fn calls(&self) -> Result<u64, Refusal>
+        ensures told { IfOk result (λ calls. (is_settled self.now ≡ true)
+            × (calls ≡ self.now.closed + self.now.serving.calls)) }
+        ensures refused { IfErr result (λ why. (why ≡ Unsynced) × (is_settled self.now ≡ false)) }
+    {
+        if self.is_settled() {
+            Ok(self.closed + self.service.calls())
+        } else {
+            Err(Refusal::Unsynced)
+        }
+    }
+
     /// The node, to be read for what is told before it is on disk.
     pub(crate) fn unsettled(&self) -> &Service
         ensures { self.now.serving ≡ recording result.now self.now.serving.records }
@@ -189,13 +214,14 @@ impl Hosted {
 /// Does what a line asks of a node that has nothing to append and nothing to write, and adds both to what its host has of it.
 ///
 /// # Errors
-/// Memory was refused, or no number says how many bytes of records there were.
+/// Memory was refused, or no number says how many bytes of records, or calls, there were.
 fn add_line(
     alloc: Global,
     service: &mut Service,
     records: &mut Vec<u8>,
     words: &mut WaitingWords,
     kept: usize,
+    closed: u64,
     line: &[u8],
 ) -> Result<(), AllocError>
     ensures served { OnOk result (service.new ≡ after_line service.old line.now) }
@@ -203,8 +229,12 @@ fn add_line(
     ensures words { OnOk result (words.new
         ≡ words.old ++ record { mark = kept + length records.new.items; text = service.new.out } ∷ []) }
     ensures fits { OnOk result (kept + length records.new.items < 2 ^ 64) }
+    ensures counted { OnOk result (closed + service.new.calls < 2 ^ 64) }
 {
     service.serve(alloc, line)?;
+    if closed.checked_add(service.calls()).is_none() {
+        return Err(AllocError);
+    }
     records.extend_from_slice(service.records())?;
     let Some(upto) = kept.checked_add(records.len()) else {
         return Err(AllocError);
@@ -216,7 +246,7 @@ fn add_line(
 /// where all is, they are all.
 #[tactic(auto, using(crate::proofs::InOrder::opened_in_order, crate::proofs::InOrder::served_in_order, crate::proofs::InOrder::kept_in_order, crate::proofs::InOrder::cleared_in_order, crate::proofs::InOrder::on_disk_is_told, crate::proofs::InOrder::settled_tells_all))]
 pub fn words_wait_for_records()
-    ensures opened { (s : Serving) → AreInOrder (just_opened s) }
+    ensures opened { (closed : ℕ) (s : Serving) → AreInOrder (just_opened closed s) }
     ensures served { (h : Hosting) (line : List ℕ) → AreInOrder h → AreInOrder (line_served h line) }
     ensures kept { (h : Hosting) (size : ℕ) → AreInOrder h → AreInOrder (bytes_kept size h) }
     ensures cleared { (h : Hosting) → AreInOrder h → AreInOrder (words_cleared h) }

@@ -65,6 +65,8 @@ pub enum Refusal {
     FieldDigits,
     /// A field of a message is no day.
     FieldDay,
+    /// What the log's file begins with, after closed logs, is no rest of this node under these settings, or is damaged.
+    NotARest,
 }
 
 /// The number of what a call says: 0 of one that was made.
@@ -100,6 +102,7 @@ pub fn number_of(said: Result<(), Refusal>) -> u32
         Err(Refusal::FieldSpace) => 25,
         Err(Refusal::FieldDigits) => 26,
         Err(Refusal::FieldDay) => 27,
+        Err(Refusal::NotARest) => 28,
     }
 }
 
@@ -111,8 +114,7 @@ pub(crate) fn refusal_of(fault: ServiceFault) -> Refusal
         ServiceFault::OutOfMemory => Refusal::OutOfMemory,
         ServiceFault::Settings => Refusal::Settings,
         ServiceFault::NoSuchNode => Refusal::NoSuchNode,
-        // A node of a handle is opened with no rest.
-        ServiceFault::Rest => Refusal::NotALog,
+        ServiceFault::Rest => Refusal::NotARest,
         ServiceFault::OtherNode => Refusal::OtherNode,
         ServiceFault::Log(fault) => refusal_of_log(fault),
         ServiceFault::NotMade(_) => Refusal::BadRecord,

@@ -4,9 +4,9 @@ use Rattle.std.proofs.lemmas.Bool.{cases_lt}
 use Rattle.std.proofs.lemmas.Bool.Decides.{nat_tests}
 use Rattle.std.specs.Int.{w64, to_be_bytes}
 use Rattle.std.specs.List.{AllByRecursion}
-use Rattle.kept_records.proofs.FieldsBack.{u64_at-put}
+use Rattle.codec.proofs.FieldsBack.{u64_at-put}
 use Rattle.kept_logs.specs.Stamps.{Stamped, KeptLog, stamped_text}
-use Rattle.kept_records.specs.Fields.{u64_at}
+use Rattle.codec.specs.Fields.{u64_at}
 use Rattle.kept_logs.specs.Digests.{version_of}
 use Rattle.kept_logs.specs.Frames.{frame_text, is_zeros, CutOff, Damaged, sized_frame, frame_at}
 use Rattle.kept_logs.specs.Logs.{head_text, calls_text, kept_text, read_record, framed_record, record_in, behind, and_more, head_in, calls_in, kept_in}

@@ -16,7 +16,8 @@ use Rattle.kept_logs.specs.declared.making.MadeLog.{MadeLog}
 use Rattle.kept_logs.specs.Rests.{begins, references_before}
 use Rattle.kept_logs.specs.Stamps.{Stamped, KeptLog, bare_calls}
 use Rattle.kept_logs.specs.References.{Reference, references_in}
-use Rattle.settings_digest.specs.Digests.{turned_under}
+use Rattle.settings_digest.specs.Digests.{AreOf, turned_under}
+use Rattle.settings_digest.specs.declared.digests.Digests.{Digests}
 use Rattle.crash_safety.specs.Steps.{replayed_from}
 use Rattle.node_logged.specs.Setting.{context_of}
 use Rattle.node_service.specs.Serving.{Serving}
@@ -25,6 +26,16 @@ use Rattle.node_service.specs.Serving.{Serving}
 pub record Spells (text : List ℕ) (settings : WorldSettings) : Type 0 where
   pub spelled : living_in text ≡ Some (document_seen settings)
   pub taken : world_fault settings ≡ None
+
+-- settings that nodes share, and the digests under which logs are of them
+pub record Sharing : Type 0 where
+  pub settings : WorldSettings
+  pub digests : Digests
+
+-- these are the settings that a text spells, and their digests
+pub record IsSharing (text : List ℕ) (s : Sharing) : Type 0 where
+  pub spells : Spells text s.settings
+  pub digests : AreOf text s.digests
 
 -- the node of that name, from what its log begins with, makes these calls, and sends with each every byte that the log has as sent
 abbrev pub MakesAll : WorldSettings → Node → Option (List ℕ) → List Logged → Type 0

@@ -18,6 +18,7 @@ mod payment_lines;
 mod payments;
 mod references;
 mod service;
+mod sharing;
 mod telling;
 
 pub use answering::ready_line;
@@ -28,3 +29,4 @@ pub use laws::{
 pub use payment_lines::put_word;
 pub use payments::{NodePayment, payments_of};
 pub use service::Service;
+pub use sharing::SharedSettings;

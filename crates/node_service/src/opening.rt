@@ -2,21 +2,21 @@
 
 ghost use Rattle.std.specs.Prelude.{◌≡◌, ℕ, List, Option, Some, Ok, IfOk, IfErr, IsSome};
 ghost use Rattle.std.specs.Option.{option_copied};
+ghost use Rattle.std.specs.Arc.{arc_value};
 ghost use Rattle.claim_model.specs.Settings.{opening};
 ghost use Rattle.claim_model.specs.Nodes.{node_at};
 ghost use Rattle.world_setup.specs.Seen.{node_seen, settings_seen};
-ghost use Rattle.world_settings.specs.Document.{document_seen, living_in};
 ghost use Rattle.kept_logs.specs.Digests.{version_seen};
 ghost use Rattle.kept_logs.specs.Logs.{log_in};
 ghost use Rattle.kept_logs.specs.LogSeen.{reading_seen};
 ghost use Rattle.kept_logs.specs.Rests.{begins};
-ghost use Rattle.settings_digest.specs.Digests.{turned_under};
-ghost use Rattle.node_service.specs.Opened.{IsBegunAs, IsOpened, IsRead, IsServedAs, IsServedNew, IsUnmade, Spells};
-ghost use Rattle.node_service.specs.Refused.{IsRefused, IsUnserved, NoSettings};
+ghost use Rattle.node_service.specs.Opened.{IsBegunAs, IsOpened, IsRead, IsServedAs, IsServedNew, IsSharing, IsUnmade};
+ghost use Rattle.node_service.specs.Refused.{IsRefused, IsUnserved};
 
 use crate::fault::ServiceFault;
 use crate::references::References;
 use crate::service::Service;
+use crate::sharing::SharedSettings;
 use kept_logs::{
     Beginning, LogFault, LogVersion, MadeLog, ReadLog, Reference, SettingsDigest, begins,
     make_as_read, place_of, read_log, write_log,
@@ -24,10 +24,9 @@ use kept_logs::{
 use node_log::{NodeLog, is_there, make_log_from};
 use node_state::NodeState;
 use payer_book::HashKeys;
-use settings_digest::Digests;
 use std::alloc::{AllocError, Global};
-use world_settings::{SettingsFault, read_living_settings};
-use world_setup::{CheckedSettings, Node, WorldSettings};
+use std::sync::Arc;
+use world_setup::{CheckedSettings, Node};
 
 impl Service {
     /// The node of this name under the settings that a text spells, from the bytes of its log, and where this goes on after
@@ -53,38 +52,44 @@ impl Service {
         ensures refused { IfErr result (λ why.
             IsRefused text.now (node_seen node) (option_copied rest.entry) bytes.now why) }
     {
-        let shared = shared_of(alloc, keys, text)?;
-        if !is_there(shared.settings(), node) {
+        let shared = SharedSettings::open(alloc, keys, text)?;
+        Service::open_under(alloc, &shared, node, rest, bytes)
+    }
+
+    /// The same under settings that were opened before, and that any number of nodes may share: of each text that they may have been
+    /// opened from it is what `open` gives.
+    ///
+    /// # Errors
+    /// Those of `open`, but for `Settings`.
+    pub fn open_under(
+        alloc: Global,
+        shared: &Arc<SharedSettings>,
+        node: Node,
+        rest: Option<&[u8]>,
+        bytes: &[u8],
+    ) -> Result<(Service, usize), ServiceFault>
+        ensures opened { IfOk result (λ opened. (text : List ℕ) → IsSharing text (arc_value shared.now)
+            → IsOpened text (node_seen node) (option_copied rest.entry) bytes.now opened.1 opened.0) }
+        ensures refused { IfErr result (λ why. (text : List ℕ) → IsSharing text (arc_value shared.now)
+            → IsRefused text (node_seen node) (option_copied rest.entry) bytes.now why) }
+    {
+        let checked = shared.checked();
+        if !is_there(checked.settings(), node) {
             return Err(ServiceFault::NoSuchNode);
         }
-        let Some(before) = begins(alloc, &shared, node, rest)? else {
+        let Some(before) = begins(alloc, checked, node, rest)? else {
             return Err(ServiceFault::Rest);
         };
-        let digest = digest_of(alloc, text, &shared, rest, bytes)?;
+        let digest = shared.digest(rest, bytes);
         let Beginning {
             node: state,
             references,
         } = before;
-        match made(alloc, &digest, &shared, state, node, bytes)? {
+        match made(alloc, &digest, checked, state, node, bytes)? {
             Some(made) => Ok(served(alloc, shared, node, digest.version(), references, made)?),
             None => unmade(alloc, &digest, shared, node, rest, bytes),
         }
     }
-}
-
-/// The digest of the settings under which bytes are a log.
-fn digest_of(
-    alloc: Global,
-    text: &[u8],
-    shared: &CheckedSettings,
-    rest: Option<&[u8]>,
-    bytes: &[u8],
-) -> Result<SettingsDigest, AllocError>
-    requires { living_in text.now ≡ Some (document_seen shared.now) }
-    ensures { IfOk result (λ digest. digest ≡ turned_under text.now (option_copied rest.entry) bytes.now) }
-{
-    let digests = Digests::of(alloc, shared.settings(), text)?;
-    Ok(digests.turned(rest, bytes))
 }
 
 /// The node that makes the log which bytes are, as they are read, from what it begins with; `None` where they are none, or it does
@@ -106,19 +111,20 @@ fn made(
 /// A node that has made its log, of this version, is served; these are the references from before it.
 fn served(
     alloc: Global,
-    shared: CheckedSettings,
+    shared: &Arc<SharedSettings>,
     node: Node,
     version: LogVersion,
     before: Vec<Reference>,
     made: MadeLog,
 ) -> Result<(Service, usize), AllocError>
-    ensures { IfOk result (λ s. IsServedAs shared (node_seen node) (version_seen version) before.items made s.1 s.0) }
+    ensures { IfOk result (λ s. IsServedAs (arc_value shared.now).settings (node_seen node) (version_seen version)
+        before.items made s.1 s.0) }
 {
     let mut references = References::new(alloc);
     references.add_all(alloc, before)?;
     references.add_all(alloc, made.references)?;
     let service = Service {
-        shared,
+        shared: Arc::try_clone(shared)?,
         name: node,
         version,
         state: made.node,
@@ -130,49 +136,26 @@ fn served(
     Ok((service, made.whole))
 }
 
-/// The settings that a text spells, with these keys, where a world takes them.
-fn shared_of(alloc: Global, keys: &HashKeys, text: &[u8]) -> Result<CheckedSettings, ServiceFault>
-    ensures spelled { IfOk result (λ shared. Spells text.now shared) }
-    ensures refused { IfErr result (λ why. NoSettings text.now why) }
-{
-    let settings = settings_of(alloc, keys, text)?;
-    match CheckedSettings::new(alloc, settings) {
-        Ok(shared) => Ok(shared),
-        Err(fault) => Err(ServiceFault::from(fault)),
-    }
-}
-
-/// The settings that a text spells, with these keys.
-fn settings_of(alloc: Global, keys: &HashKeys, text: &[u8]) -> Result<WorldSettings, ServiceFault>
-    ensures read { IfOk result (λ settings. living_in text.now ≡ Some (document_seen settings)) }
-    ensures refused { IfErr result (λ why. NoSettings text.now why) }
-{
-    match read_living_settings(alloc, text) {
-        Ok(settings) => Ok(settings.with_keys(keys)),
-        Err(SettingsFault::OutOfMemory) => Err(ServiceFault::OutOfMemory),
-        Err(SettingsFault::Settings) => Err(ServiceFault::Settings),
-    }
-}
-
 /// The node of a log that begins, where the bytes end before the head does; else why they are no log that it makes.
 fn unmade(
     alloc: Global,
     digest: &SettingsDigest,
-    shared: CheckedSettings,
+    shared: &Arc<SharedSettings>,
     node: Node,
     rest: Option<&[u8]>,
     bytes: &[u8],
 ) -> Result<(Service, usize), ServiceFault>
-    requires there { IsSome (node_at (opening (settings_seen shared)) (node_seen node)) }
-    requires some { IsSome (begins shared (node_seen node) (option_copied rest)) }
-    requires unmade { IsUnmade shared (node_seen node) (option_copied rest) (log_in digest.now bytes.now) }
-    ensures new { IfOk result (λ s.
-        IsBegunAs shared digest.now (node_seen node) (option_copied rest.entry) bytes.now s.1 s.0) }
-    ensures refused { IfErr result (λ why.
-        IsUnserved digest.now shared (node_seen node) (option_copied rest.entry) bytes.now why) }
+    requires there { IsSome (node_at (opening (settings_seen (arc_value shared.now).settings)) (node_seen node)) }
+    requires some { IsSome (begins (arc_value shared.now).settings (node_seen node) (option_copied rest)) }
+    requires unmade { IsUnmade (arc_value shared.now).settings (node_seen node) (option_copied rest)
+        (log_in digest.now bytes.now) }
+    ensures new { IfOk result (λ s. IsBegunAs (arc_value shared.now).settings digest.now (node_seen node)
+        (option_copied rest.entry) bytes.now s.1 s.0) }
+    ensures refused { IfErr result (λ why. IsUnserved digest.now (arc_value shared.now).settings (node_seen node)
+        (option_copied rest.entry) bytes.now why) }
 {
     match read_log(alloc, digest, bytes) {
-        Ok(read) => Err(why_unmade(alloc, digest, &shared, node, rest, bytes, read)?),
+        Ok(read) => Err(why_unmade(alloc, digest, shared.checked(), node, rest, bytes, read)?),
         Err(LogFault::Short) => Ok((begun(alloc, digest, shared, node, rest)?, 0)),
         Err(LogFault::OutOfMemory) => Err(ServiceFault::OutOfMemory),
         Err(fault) => Err(ServiceFault::Log(fault)),
@@ -183,22 +166,23 @@ fn unmade(
 fn begun(
     alloc: Global,
     digest: &SettingsDigest,
-    shared: CheckedSettings,
+    shared: &Arc<SharedSettings>,
     node: Node,
     rest: Option<&[u8]>,
 ) -> Result<Service, AllocError>
-    requires there { IsSome (node_at (opening (settings_seen shared)) (node_seen node)) }
-    requires some { IsSome (begins shared (node_seen node) (option_copied rest)) }
-    ensures { IfOk result (λ s. IsServedNew shared (node_seen node) digest.now (option_copied rest.entry) s) }
+    requires there { IsSome (node_at (opening (settings_seen (arc_value shared.now).settings)) (node_seen node)) }
+    requires some { IsSome (begins (arc_value shared.now).settings (node_seen node) (option_copied rest)) }
+    ensures { IfOk result (λ s. IsServedNew (arc_value shared.now).settings (node_seen node) digest.now
+        (option_copied rest.entry) s) }
 {
-    let Some(before) = begins(alloc, &shared, node, rest)? else {
+    let Some(before) = begins(alloc, shared.checked(), node, rest)? else {
         unreachable!()
     };
     let mut references = References::new(alloc);
     references.add_all(alloc, before.references)?;
     let records = write_log(alloc, digest, &NodeLog::new(alloc, node))?;
     Ok(Service {
-        shared,
+        shared: Arc::try_clone(shared)?,
         name: node,
         version: digest.version(),
         state: before.node,

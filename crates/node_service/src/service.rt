@@ -1,11 +1,11 @@
 //! A node that is served.
 
-ghost use Rattle.std.specs.Prelude.{◌≡◌, codes, Some, IfSome, OnOk};
+ghost use Rattle.std.specs.Prelude.{◌≡◌, codes, Some, IfNone, IfSome, OnOk};
 ghost use Rattle.std.specs.Option.{option_copied};
 ghost use Rattle.std.specs.List.{AllByRecursion};
 ghost use Rattle.claim_model.specs.Node.{Done};
 ghost use Rattle.world_setup.specs.Seen.{call_seen, node_seen, settings_seen};
-ghost use Rattle.node_state.specs.Resting.{IsRecord};
+ghost use Rattle.node_state.specs.Resting.{IsRecord, IsResting};
 ghost use Rattle.node_service.specs.Answering.{refused_line};
 ghost use Rattle.kept_logs.specs.Fits.{FitsStamped};
 ghost use Rattle.node_service.specs.Lines.{kept_asked, kept_making, line_kept};
@@ -19,6 +19,7 @@ use crate::asking::{Asked, Noted, Question, asked_of};
 use crate::idle::is_idle_call;
 use crate::most::most_of;
 use crate::references::References;
+use crate::sharing::SharedSettings;
 use crate::telling::{put_made, put_told};
 use kept_logs::{LogVersion, Reference, Stamp, record_bytes};
 use node_log::Record;
@@ -26,12 +27,13 @@ use node_state::NodeState;
 use octets::Octets;
 use std::alloc::{AllocError, Global};
 use std::marker::Model;
+use std::sync::Arc;
 use world_setup::{Call, CheckedSettings, Fault, Node};
 
 /// A node that is served, with what is to be appended to its log and, after that, to be written.
 #[derive(Drop)]
 pub struct Service {
-    pub(crate) shared: CheckedSettings,
+    pub(crate) shared: Arc<SharedSettings>,
     pub(crate) name: Node,
     pub(crate) version: LogVersion,
     pub(crate) state: NodeState,
@@ -42,6 +44,7 @@ pub struct Service {
 }
 
 impl Model for Service {
+    ghost use Rattle.std.specs.Arc.{arc_value};
     ghost use Rattle.world_setup.specs.Seen.{node_seen};
     ghost use Rattle.kept_logs.specs.Digests.{version_seen};
     ghost use Rattle.node_service.specs.Serving.{Serving};
@@ -49,7 +52,7 @@ impl Model for Service {
     ghost Value = { Serving };
 
     ghost view = { λ s. record {
-      settings = s.shared;
+      settings = (arc_value s.shared).settings;
       node = node_seen s.name;
       version = version_seen s.version;
       state = s.state;
@@ -140,7 +143,10 @@ impl Service {
             time,
             reference,
         } = noted;
-        match self.state.step(alloc, self.shared.routes(), &call) {
+        match self
+            .state
+            .step(alloc, self.shared.checked().routes(), &call)
+        {
             Ok(sent) => self.record(alloc, time, reference.as_slice(), &Record::new(call, sent)),
             Err(Fault::OutOfMemory) => Err(AllocError),
             Err(fault) => put_refused(&mut self.out, fault.name().as_bytes()),
@@ -175,11 +181,13 @@ impl Service {
     }
 
     /// The bytes of the node's record, where it is at rest: what its settings make of them is the node that a call to start it makes.
+    /// `None` where it is up.
     pub fn record_at_rest(&self) -> Option<&[u8]>
-        ensures { IfSome (option_copied result) (λ bytes.
+        ensures record { IfSome (option_copied result) (λ bytes.
             IsRecord (settings_seen self.now.settings) self.now.node bytes self.now.state) }
+        ensures none { IfNone result (IsResting (settings_seen self.now.settings) self.now.node self.now.state → ⊥) }
     {
-        self.state.record(&self.shared, self.name)
+        self.state.record(self.shared.checked(), self.name)
     }
 
     /// The node as it stands, to be read.
@@ -193,7 +201,7 @@ impl Service {
     pub fn settings(&self) -> &CheckedSettings
         ensures { result.now ≡ self.now.settings }
     {
-        &self.shared
+        self.shared.checked()
     }
 
     /// The node's name.
@@ -207,7 +215,7 @@ impl Service {
     pub fn most(&self) -> u32
         ensures { result ≡ most_of (settings_seen self.now.settings) self.now.node }
     {
-        most_of(self.shared.settings(), self.name)
+        most_of(self.shared.checked().settings(), self.name)
     }
 
     /// How many calls the node's log has, those included that are to be appended.

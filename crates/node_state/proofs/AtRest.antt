@@ -1,6 +1,6 @@
 -- Records of nodes at rest, and what is made of them.
-use Rattle.std.proofs.Common.{◌≡◌, ℕ, ◌<◌, List, length, map, true, Option, Some, Result, Ok, refl, sym, ap, ◌∙◌, arith, zero, suc, [], ◌∷◌}
-use Rattle.std.specs.Prelude.{option_map, not, slice_get}
+use Rattle.std.proofs.Common.{◌≡◌, ℕ, ◌<◌, List, length, map, true, Option, Some, None, Result, Ok, refl, sym, ap, ◌∙◌, arith, zero, suc, [], ◌∷◌}
+use Rattle.std.specs.Prelude.{IfNone, option_map, not, slice_get}
 use Rattle.std.specs.List.{list_all}
 use Rattle.std.specs.Result.{result_ok}
 use Rattle.std.proofs.lemmas.Bool.{and_parts}
@@ -10,6 +10,8 @@ use Rattle.claim_model.specs.Rows.{Book}
 use Rattle.claim_model.specs.Node.{Pharmacy, Switch, Payer, Up, AtRest}
 use Rattle.claim_model.specs.Nodes.{OfPharmacy, OfSwitch, OfPayer}
 use Rattle.claim_model.specs.Settings.{WorldSettings, is_empty}
+use Rattle.claim_model.specs.Settings as model
+use Rattle.claim_model.proofs.Options.{same_some}
 use Rattle.claim_model.proofs.Lists.{numbered_map}
 use Rattle.world_setup.specs.declared.settings.PayerSettings.{PayerSettings}
 use Rattle.world_setup.specs.Seen.{payer_seen}
@@ -17,7 +19,7 @@ use Rattle.kept_records.specs.declared.fault.RecordFault.{RecordFault}
 use Rattle.kept_records.specs.Journals.{journal_in}
 use Rattle.kept_records.specs.Books.{book_in}
 use Rattle.node_state.specs.Nodes.{has_node}
-use Rattle.node_state.specs.Resting.{IsRecord, resumed_pharmacy, resumed_switch, resumed_payer}
+use Rattle.node_state.specs.Resting.{IsRecord, IsResting, resumed_pharmacy, resumed_switch, resumed_payer}
 
 -- a journal that is read is started
 read_as : (n : ℕ) (bytes : List ℕ) (settings : PharmacySettings) (j : JournalAtRest) → journal_in n settings bytes ≡ Ok j → resumed_pharmacy n bytes (Some settings) ≡ Some (OfPharmacy (Up (started j)))
@@ -55,6 +57,26 @@ payer_record s payers n p rest bytes same at reads = record {
   is = ap (λ ps. resumed_payer n bytes (numbered ps n)) same ∙ book_read payers n p bytes (Ok rest) at reads;
   starts = λ ctx. refl;
 }
+
+-- a node that has no record is no node of its name under its settings
+
+pub none_then : {T : Type 0} (o : Option T) {P Q : Type 0} → IfNone o P → (P → Q) → IfNone o Q
+none_then None is then = then is
+none_then (Some x) is then = tt
+
+pub pharmacy_unrecorded : (s : WorldSettings) (pharmacies : List PharmacySettings) (n : ℕ) (settings : PharmacySettings) (rest : JournalAtRest)
+    → s.pharmacies ≡ pharmacies → numbered pharmacies n ≡ Some settings → (rest.number ≡ n → rest.settings ≡ settings → ⊥) → IsResting s (Pharmacy n) (OfPharmacy (AtRest rest)) → ⊥
+pharmacy_unrecorded s pharmacies n settings rest same at other is =
+    other is.0 (same_some rest.settings settings (sym is.1 ∙ (ap (λ (ps : List PharmacySettings). numbered ps n) same ∙ at)))
+
+pub switch_unrecorded : (s : WorldSettings) (switches : List ℕ) (n cap own : ℕ) → s.switches ≡ switches → numbered switches n ≡ Some cap → (own ≡ cap → ⊥) → IsResting s (Switch n) (OfSwitch (AtRest own)) → ⊥
+switch_unrecorded s switches n cap own same at other is = other (same_some own cap (sym is ∙ (ap (λ (caps : List ℕ). numbered caps n) same ∙ at)))
+
+pub payer_unrecorded : (s : WorldSettings) (payers : List PayerSettings) (n : ℕ) (p : PayerSettings) (rest : Book)
+    → s.payers ≡ map payer_seen payers → numbered payers n ≡ Some p → (rest.payer ≡ n → rest.settings ≡ p.book → ⊥) → IsResting s (Payer n) (OfPayer (AtRest rest)) → ⊥
+payer_unrecorded s payers n p rest same at other is =
+    let has = λ (ps : List model.PayerSettings). option_map (λ (p : model.PayerSettings). p.book) (numbered ps n) in
+    other is.0 (same_some rest.settings p.book (sym is.1 ∙ (ap has same ∙ ap (option_map (λ (p : model.PayerSettings). p.book)) (payer_of payers n p at))))
 
 -- the switches that a pharmacy tries
 

@@ -22,6 +22,8 @@ pub record IsJournal (number : ℕ) (settings : PharmacySettings) (bytes : List 
   pub some_number : 0 < number
   pub some_node : 0 < length settings.nodes
   pub journal : JournalAtRest
+  pub own_number : journal.number ≡ number
+  pub own_settings : journal.settings ≡ settings
   pub text : bytes ≡ journal_text 2 journal
   pub reads : journal_in number settings bytes ≡ Ok journal
 
@@ -36,6 +38,8 @@ book_of payer settings bytes = read_or (first_book payer settings no_plan) (book
 -- bytes that are the record, of version 2, of a book of this payer and these settings, and are read as that book
 pub record IsBook (payer : ℕ) (settings : BookSettings) (bytes : List ℕ) : Type 0 where
   pub book : Book
+  pub own_number : book.payer ≡ payer
+  pub own_settings : book.settings ≡ settings
   pub text : bytes ≡ book_text 2 book
   pub reads : book_in payer settings bytes ≡ Ok book
 

@@ -1,15 +1,18 @@
 -- A node that is started from what it left at rest: the bytes of its record, beside the settings of its world.
-use Rattle.std.specs.Prelude.{◌≡◌, ℕ, List, [], ◌∷◌, Option, Some, None}
+use Rattle.std.specs.Prelude.{◌≡◌, ℕ, Bool, not, List, [], ◌∷◌, Option, Some, None}
 use Rattle.std.specs.Option.{option_map}
 use Rattle.std.specs.Result.{result_ok}
 use Rattle.claim_model.specs.Context.{Context}
-use Rattle.claim_model.specs.Journal.{PharmacySettings, started}
+use Rattle.claim_model.specs.Journal.{Journal, JournalAtRest, PharmacySettings, started}
 use Rattle.claim_model.specs.Numbered.{numbered}
-use Rattle.claim_model.specs.Node.{Node, Pharmacy, Switch, Payer, Up, Start, Done}
+use Rattle.claim_model.specs.Node.{Node, Pharmacy, Switch, Payer, Power, Up, AtRest, Start, Done}
+use Rattle.claim_model.specs.Table.{Table}
+use Rattle.claim_model.specs.Rows.{Book}
 use Rattle.claim_model.specs.Nodes.{AnyNode, OfPharmacy, OfSwitch, OfPayer, node_step}
 use Rattle.claim_model.specs.Settings.{WorldSettings, PayerSettings}
 use Rattle.kept_records.specs.Journals.{journal_in}
 use Rattle.kept_records.specs.Books.{book_in}
+use Rattle.node_state.specs.Sends.{is_up}
 
 -- the pharmacy of this number and these settings, started with the journal that bytes are the record of
 abbrev pub resumed_pharmacy : ℕ → List ℕ → Option PharmacySettings → Option AnyNode
@@ -38,3 +41,36 @@ pub record IsRecord (s : WorldSettings) (node : Node) (bytes : List ℕ) (rest :
   pub begins : AnyNode
   pub is : resumed s node bytes ≡ Some begins
   pub starts : (ctx : Context) → node_step ctx rest Start ≡ Done begins []
+
+-- a pharmacy is at rest, and has this number and these settings
+abbrev pub rests_as_pharmacy : ℕ → Option PharmacySettings → Power Journal JournalAtRest → Type 0
+rests_as_pharmacy number settings (Up j) = ⊥
+rests_as_pharmacy number settings (AtRest j) = (j.number ≡ number) × (settings ≡ Some j.settings)
+
+-- a switch is at rest, and has this cap
+abbrev pub rests_as_switch : Option ℕ → Power Table ℕ → Type 0
+rests_as_switch cap (Up t) = ⊥
+rests_as_switch cap (AtRest own) = cap ≡ Some own
+
+-- a payer is at rest, and its book has this number and the settings of this payer
+abbrev pub rests_as_payer : ℕ → Option PayerSettings → Power Book Book → Type 0
+rests_as_payer number settings (Up b) = ⊥
+rests_as_payer number settings (AtRest b) = (b.payer ≡ number) × (option_map (λ (p : PayerSettings). p.book) settings ≡ Some b.settings)
+
+-- a node is at rest, and is the one of that name under these settings
+abbrev pub IsResting : WorldSettings → Node → AnyNode → Type 0
+IsResting s (Pharmacy number) (OfPharmacy node) = rests_as_pharmacy number (numbered s.pharmacies number) node
+IsResting s (Pharmacy number) (OfSwitch node) = ⊥
+IsResting s (Pharmacy number) (OfPayer node) = ⊥
+IsResting s (Switch number) (OfPharmacy node) = ⊥
+IsResting s (Switch number) (OfSwitch node) = rests_as_switch (numbered s.switches number) node
+IsResting s (Switch number) (OfPayer node) = ⊥
+IsResting s (Payer number) (OfPharmacy node) = ⊥
+IsResting s (Payer number) (OfSwitch node) = ⊥
+IsResting s (Payer number) (OfPayer node) = rests_as_payer number (numbered s.payers number) node
+
+-- a node is at rest
+abbrev pub is_down : AnyNode → Bool
+is_down (OfPharmacy node) = not (is_up node)
+is_down (OfSwitch node) = not (is_up node)
+is_down (OfPayer node) = not (is_up node)

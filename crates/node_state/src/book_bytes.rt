@@ -1,6 +1,6 @@
 //! The book of a payer at rest, as bytes.
 
-ghost use Rattle.std.specs.Prelude.{◌≡◌, Ok, IfOk, IfSome};
+ghost use Rattle.std.specs.Prelude.{◌≡◌, Ok, IfNone, IfOk, IfSome};
 ghost use Rattle.std.specs.Option.{option_copied};
 ghost use Rattle.kept_records.specs.Books.{book_in, book_text};
 
@@ -54,7 +54,8 @@ impl BookBytes {
 
     /// The bytes, where the payer has this number and its book these settings: they are read as its book.
     pub(crate) fn record_under(&self, number: u16, settings: BookSettings) -> Option<&[u8]>
-        ensures { IfSome (option_copied result) (λ bytes. book_in number settings bytes ≡ Ok self.now) }
+        ensures record { IfSome (option_copied result) (λ bytes. book_in number settings bytes ≡ Ok self.now) }
+        ensures none { IfNone result (self.now.payer ≡ number → self.now.settings ≡ settings → ⊥) }
     {
         if self.payer.get() == number && self.settings == settings {
             Some(self.bytes.as_slice())

@@ -1,6 +1,6 @@
 //! The journal of a pharmacy at rest, as bytes.
 
-ghost use Rattle.std.specs.Prelude.{◌≡◌, Ok, IfOk, IfSome, IsTrue};
+ghost use Rattle.std.specs.Prelude.{◌≡◌, false, Ok, IfNone, IfOk, IfSome, IsTrue};
 ghost use Rattle.std.specs.Option.{option_copied};
 ghost use Rattle.claim_model.specs.Journal.{stopped, started};
 ghost use Rattle.kept_records.specs.Journals.{journal_in, journal_text};
@@ -32,6 +32,7 @@ impl Model for JournalBytes {
 
 impl JournalBytes {
     /// The record of what a pharmacy leaves when it stops.
+    #[tactic(auto, unfolding(claim_model::specs::Journal::stopped))]
     pub(crate) fn save(alloc: Global, pharmacy: &Pharmacy) -> Result<JournalBytes, AllocError>
         ensures { IfOk result (λ kept. kept ≡ stopped pharmacy.now) }
     {
@@ -53,8 +54,9 @@ impl JournalBytes {
 
     /// The bytes, where the pharmacy has this number and these settings: they are read as its journal.
     pub(crate) fn record_under(&self, number: u16, settings: &PharmacySettings) -> Option<&[u8]>
-        ensures { IfSome (option_copied result) (λ bytes.
+        ensures record { IfSome (option_copied result) (λ bytes.
             journal_in number settings.now bytes ≡ Ok self.now) }
+        ensures none { IfNone result (self.now.number ≡ number → self.now.settings ≡ settings.now → ⊥) }
     {
         if self.number == number && is_same(&self.settings, settings) {
             Some(self.bytes.as_slice())
@@ -88,7 +90,8 @@ impl JournalBytes {
 
 /// Whether two pharmacies have the same settings.
 fn is_same(a: &PharmacySettings, b: &PharmacySettings) -> bool
-    ensures { IsTrue result → a.now ≡ b.now }
+    ensures same { IsTrue result → a.now ≡ b.now }
+    ensures other { result ≡ false → a.now ≡ b.now → ⊥ }
 {
     a.qualifier() == b.qualifier()
         && a.provider() == b.provider()

@@ -1,5 +1,6 @@
 pub mod Lists
 pub mod Readings
+pub mod PlaceLemmas
 pub mod RowIndex
 pub mod Numbering
 pub mod PaymentIndex

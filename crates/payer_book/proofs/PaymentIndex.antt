@@ -71,6 +71,17 @@ module _ (payer first numbers : ℕ) (ps : List Payment) (at : Fill → Option �
       let m : k ≡ g.0 = same_some k g.0 (sym e ∙ (ap at (sym g.2) ∙ h.there t.0 g.0 g.1)) in
       ap (option_and_then still) (ap (slice_get ps) m ∙ g.1) ∙ sym t.1
 
+  -- a fill without a standing payment has no place
+  pub index_none : (fill : Fill) → standing_of fill (standing_in ps) ≡ None → at fill ≡ None
+  index_none fill none = by_place (at fill) refl
+    where
+      by_place : (o : Option ℕ) → at fill ≡ o → at fill ≡ None
+      by_place None e = e
+      by_place (Some k) e =
+          let f = h.found fill k e in
+          let t = stands_found fill ps f.payment k f.there f.is_of in
+          let x : Some t.0 ≡ None = sym t.1 ∙ none in absurd cc
+
 -- no two standing payments are for one fill
 
 abbrev Offset : (Fill → Option ℕ) → ℕ → List Payment → Type 0

@@ -7,8 +7,8 @@ use Rattle.claim_model.specs.Words.{TxnId}
 use Rattle.claim_model.specs.Rows.{Row}
 use Rattle.claim_model.specs.Readable.{same_id}
 use Rattle.claim_model.specs.Book.{row_of}
-use Rattle.claim_model.proofs.Lists.{get_last, find_append, find_beyond}
-use Rattle.payer_book.specs.RowPlaces.{IsPlaced}
+use Rattle.claim_model.proofs.Lists.{get_exists, get_last, find_append, find_beyond}
+use Rattle.payer_book.specs.RowPlaces.{IsPlaced, IsPlaceOf}
 use Rattle.payer_book.proofs.Lists.{get_append}
 use Rattle.envelope.specs.contracts.txn.TxnIdPartialEq.TheImpl as id_eq
 use Rattle.claim_model.proofs.Tests.{id_same}
@@ -36,6 +36,28 @@ module _ (rows : List Row) (row : Row) (old new : TxnId → Option ℕ) (h : IsP
     found = λ id. ap (option_and_then (slice_get (rows ++ row ∷ []))) (more id) ∙ more_found id (same_id row.id id) (old id) refl refl (h.found id);
     within = λ id place e. more_within id place (same_id row.id id) (sym (more id) ∙ e);
   }
+
+-- what the index has for an id is where its row stands
+pub place_found : (rows : List Row) (at : TxnId → Option ℕ) → IsPlaced rows at → (id : TxnId) (o : Option ℕ) → o ≡ at id → IsPlaceOf id rows o
+place_found rows at h id None e = sym (ap (option_and_then (slice_get rows)) e ∙ h.found id)
+place_found rows at h id (Some k) e = record { within = h.within id k (sym e); is = ap (option_and_then (slice_get rows)) e ∙ h.found id }
+
+-- an id without a row has no place
+pub unplaced : (rows : List Row) (at : TxnId → Option ℕ) → IsPlaced rows at → (id : TxnId) → row_of id rows ≡ None → at id ≡ None
+unplaced rows at h id none = by_place (at id) refl
+  where
+    by_place : (o : Option ℕ) → at id ≡ o → at id ≡ None
+    by_place None e = e
+    by_place (Some k) e =
+        let x = get_exists rows k (h.within id k e) in
+        let gone : Some x.0 ≡ None = sym x.1 ∙ (ap (option_and_then (slice_get rows)) (sym e) ∙ (h.found id ∙ none)) in absurd cc
+
+-- an index that has the same places
+pub placed_same : (rows : List Row) (old new : TxnId → Option ℕ) → IsPlaced rows old → ((id : TxnId) → new id ≡ old id) → IsPlaced rows new
+placed_same rows old new h same = record {
+  found = λ id. ap (option_and_then (slice_get rows)) (same id) ∙ h.found id;
+  within = λ id place e. h.within id place (sym (same id) ∙ e);
+}
 
 -- what an insertion makes of the index
 pub placed_by : (rows : List Row) (row : Row) (key : TxnId) (place : ℕ) (old new : TxnId → Option ℕ) → key ≡ row.id → place ≡ length rows

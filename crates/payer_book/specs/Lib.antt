@@ -6,6 +6,7 @@ pub mod Kept
 pub mod Posted
 pub mod Ledger
 pub mod Changes
+pub mod PlaceMaps
 pub mod RowPlaces
 pub mod PaymentPlaces
 pub mod Matches

@@ -8,6 +8,7 @@ pub(crate) mod entering;
 pub(crate) mod held_rulings;
 pub(crate) mod payment;
 pub(crate) mod payments;
+pub(crate) mod place_map;
 pub(crate) mod placing;
 pub(crate) mod posting;
 pub(crate) mod rest;

@@ -2,14 +2,28 @@
 
 use crate::extent::Extent;
 use crate::stop::PictureStop;
+use clap::Error as ClapError;
 use clap::error::ErrorKind;
-use clap::{Arg, ArgAction, Command, Error as ClapError};
-use command_line::VERSION;
+use command_line::{Program, Takes, Word};
 use input_text::read_decimal;
 use std::alloc::Global;
 
 /// The most digits of an event's number.
 const MOST_DIGITS: usize = 18;
+
+/// The program, and its words.
+static PROGRAM: Program = Program {
+    name: "claimpicture",
+    about: "Draws a replay as a sequence diagram: the input of `claimswitch replay` in, one SVG file out.",
+    after: "",
+    words: &[Word {
+        name: "EVENTS",
+        takes: Takes::MaybePlace,
+        help: "`all`, or a part as `100-180`; without it, of more than 2,000 events the first and the last 500",
+    }],
+    never_with: &[],
+    only_with: &[],
+};
 
 /// What the words of the command line ask for.
 #[derive(Drop)]
@@ -26,8 +40,7 @@ pub enum Wish {
 /// `Usage` where more stands after the name than `all`, a part such as `100-180`, or a wish for help or the version;
 /// `Fault(OutOfMemory)` where memory was refused.
 pub fn wish_of(alloc: Global, words: &[String]) -> Result<Wish, PictureStop> {
-    let command = command_of(alloc)?;
-    match command.try_get_matches_from(words) {
+    match PROGRAM.matches(alloc, words) {
         Ok(matches) => match matches.get_str("EVENTS") {
             Some(word) => match extent_in(word.as_bytes()) {
                 Some(extent) => Ok(Wish::Draw(extent)),
@@ -37,17 +50,6 @@ pub fn wish_of(alloc: Global, words: &[String]) -> Result<Wish, PictureStop> {
         },
         Err(error) => told_of(alloc, error),
     }
-}
-
-/// The words that the program knows.
-fn command_of<'a>(alloc: Global) -> Result<Command<'a>, ClapError> {
-    let part = Arg::new(alloc, "EVENTS").action(ArgAction::Set).help(
-        "`all`, or a part as `100-180`; without it, of more than 2,000 events the first and the last 500",
-    );
-    let command = Command::new(alloc, "claimpicture").version(VERSION).about(
-        "Draws a replay as a sequence diagram: the input of `claimswitch replay` in, one SVG file out.",
-    );
-    Ok(command.arg(part)?)
 }
 
 /// What is told in place of a picture, where that was asked for.

@@ -9,6 +9,7 @@ ghost use Rattle.std.specs.Prelude.{◌≡◌};
 ghost use Rattle.std.specs.declared.option.Option.TheVariants.{None};
 ghost use Rattle.node_handle.specs.Numbers.{Says};
 ghost use Rattle.node_handle.specs.Calls.{Caps, Clears, CopiesRecords, CopiesRecordsAfter, CopiesWritten, Counts, Keeps, Opens, Serves};
+ghost use Rattle.node_handle.specs.Sharings.{OpensSettings, OpensUnder};
 ghost use Rattle.node_handle.specs.Texts.{Prints, Unprints};
 ghost use Rattle.node_handle.specs.Messages.{Describes, Makes, style_of};
 ghost use Rattle.claim_profile.specs.Building.{billing_text, reversal_text};
@@ -21,8 +22,8 @@ ghost use Rattle.node_handle.specs.Payments.{ListsPayments};
 ghost use Rattle.node_handle.specs.Audits.{Audits};
 
 use node_handle::{
-    NodeHandle, PlainBilling, PlainPayment, PlainReversal, audit, billing, describe, number_of,
-    print, reversal, style_of, unprint,
+    NodeHandle, PlainBilling, PlainPayment, PlainReversal, SettingsHandle, audit, billing,
+    describe, number_of, print, reversal, style_of, unprint,
 };
 use std::alloc::Global;
 
@@ -52,6 +53,45 @@ pub extern "C" fn vogrilas_open(
         Opens node.old.part.node settings.now name.now log.now said kept.old kept.new node.new.part.node) }
 {
     number_of(node.open(alloc, settings, name, log, seed, kept))
+}
+
+/// Opens settings, for any number of nodes.
+#[unsafe(no_mangle)]
+pub extern "C" fn vogrilas_open_settings(
+    alloc: Global,
+    settings: &mut SettingsHandle,
+    text: &[u8],
+    seed: &[u8],
+) -> u32
+    ensures { Says result (λ said.
+        OpensSettings settings.old.part.settings text.now said settings.new.part.settings) }
+{
+    number_of(settings.open(alloc, text, seed))
+}
+
+/// Opens the node of a name under settings that were opened, from the bytes of its log.
+#[unsafe(no_mangle)]
+pub extern "C" fn vogrilas_open_under(
+    alloc: Global,
+    node: &mut NodeHandle,
+    settings: &mut SettingsHandle,
+    name: &[u8],
+    log: &[u8],
+    kept: &mut usize,
+) -> u32
+    ensures settings { settings.new.part.settings ≡ settings.old.part.settings }
+    ensures opened { Says result (λ said. OpensUnder settings.old.part.settings node.old.part.node name.now log.now said
+        kept.old kept.new node.new.part.node) }
+{
+    number_of(node.open_under(alloc, settings, name, log, kept))
+}
+
+/// Lets go of settings. Nodes that were opened under them stay as they are.
+#[unsafe(no_mangle)]
+pub extern "C" fn vogrilas_close_settings(alloc: Global, settings: &mut SettingsHandle)
+    ensures { settings.new.part.settings ≡ None }
+{
+    settings.close(alloc);
 }
 
 /// Does what a line asks of the node.

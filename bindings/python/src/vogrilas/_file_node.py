@@ -10,7 +10,20 @@ import threading
 import warnings
 from typing import Callable, Optional, TypeVar, Union
 
-from ._node import Code, Message, Node, Payment, Refused, Said, VogrilasError, as_bytes, as_name, printed, read_said
+from ._node import (
+    Code,
+    Message,
+    Node,
+    Payment,
+    Refused,
+    Said,
+    Settings,
+    VogrilasError,
+    as_bytes,
+    as_name,
+    printed,
+    read_said,
+)
 
 
 _Read = TypeVar("_Read")
@@ -27,7 +40,7 @@ class FileNode:
     `LOG.cut-PLACE`, and a warning says so. A node belongs to the process that opened it: behind a fork the child has none.
     """
 
-    def __init__(self, settings: bytes, name: str, path: Union[str, os.PathLike[str]]) -> None:
+    def __init__(self, settings: Union[bytes, Settings], name: str, path: Union[str, os.PathLike[str]]) -> None:
         self._lock = threading.Lock()
         self._node: Optional[Node] = None
         self._process = os.getpid()
@@ -37,6 +50,9 @@ class FileNode:
         self._file = _opened(self._path)
         try:
             fcntl.flock(self._file, fcntl.LOCK_EX | fcntl.LOCK_NB)
+            # Who closed the log in between has put another file in its place, and nothing may be appended to this one.
+            if not self._has_name():
+                raise OSError(f"{self._path}: the log was replaced while it was opened; open it again")
             log = _read_all(self._file)
             self._node = Node(settings, name, log)
             if self._node.kept < len(log):
@@ -124,7 +140,7 @@ class FileNode:
 
     @property
     def calls(self) -> int:
-        """How many calls the log has."""
+        """How many calls the log has, those of closed logs before it included."""
         return self._read(lambda node: node.calls)
 
     def close(self) -> None:
@@ -212,14 +228,18 @@ class FileNode:
                 pass
             raise
 
-    def _check_name(self) -> None:
-        """That the log still has its name. Where it has lost it what it has is kept beside its place: nobody would find it again."""
+    def _has_name(self) -> bool:
+        """Whether the log still has its name."""
         here = os.fstat(self._file)
         try:
             there = os.stat(self._path)
         except FileNotFoundError:
-            there = None
-        if there is None or (here.st_dev, here.st_ino) != (there.st_dev, there.st_ino):
+            return False
+        return (here.st_dev, here.st_ino) == (there.st_dev, there.st_ino)
+
+    def _check_name(self) -> None:
+        """That the log still has its name. Where it has lost it what it has is kept beside its place: nobody would find it again."""
+        if not self._has_name():
             kept = _write_new(_beside(self._path, "removed"), _read_all(self._file))
             raise OSError(f"the log was removed or replaced while its node was open; what it had is kept in {kept}")
 

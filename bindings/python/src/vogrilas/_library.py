@@ -18,6 +18,12 @@ class Handle(ctypes.Structure):
     _fields_ = [("at", ctypes.c_void_p), ("held", ctypes.c_bool)]
 
 
+class SettingsHandle(ctypes.Structure):
+    """Settings, or none; their fields are the library's own."""
+
+    _fields_ = [("at", ctypes.c_void_p), ("held", ctypes.c_bool)]
+
+
 class RawPayment(ctypes.Structure):
     """A payment, as the library writes it into a list."""
 
@@ -81,11 +87,15 @@ class RawReversal(ctypes.Structure):
 # The fill number of a reversal that leaves it out.
 NO_FILL = 255
 _NODE = ctypes.POINTER(Handle)
+_SETTINGS = ctypes.POINTER(SettingsHandle)
 _BYTES = [ctypes.c_char_p, ctypes.c_size_t]
 _BUFFER = [ctypes.c_void_p, ctypes.c_size_t, _PLACE]
 _CALLS = {
     "version": [],
     "open": [_NODE, *_BYTES, *_BYTES, *_BYTES, *_BYTES, _PLACE],
+    "open_settings": [_SETTINGS, *_BYTES, *_BYTES],
+    "open_under": [_NODE, _SETTINGS, *_BYTES, *_BYTES, _PLACE],
+    "close_settings": [_SETTINGS],
     "serve": [_NODE, *_BYTES],
     "submit": [_NODE, *_BYTES],
     "take": [_NODE, *_BYTES, *_BYTES],
@@ -129,7 +139,7 @@ def _load() -> ctypes.CDLL:
     for name, given in _CALLS.items():
         call = getattr(library, f"vogrilas_{name}")
         call.argtypes = given
-        call.restype = None if name == "close" else ctypes.c_uint32
+        call.restype = None if name.startswith("close") else ctypes.c_uint32
     version = library.vogrilas_version()
     if version != VERSION:
         raise OSError(f"libvogrilas is of version {version}, and not {VERSION}")

@@ -8,9 +8,9 @@ import json
 import os
 import threading
 from dataclasses import dataclass
-from typing import Any, Callable, Optional, Sequence, Union
+from typing import Any, Callable, Optional, Sequence, TypeVar, Union
 
-from ._library import LIBRARY, Handle, RawPayment
+from ._library import LIBRARY, Handle, RawPayment, SettingsHandle
 
 
 class Code(enum.IntEnum):
@@ -44,6 +44,7 @@ class Code(enum.IntEnum):
     FIELD_SPACE = 25
     FIELD_DIGITS = 26
     FIELD_DAY = 27
+    NOT_A_REST = 28
 
 
 class Message:
@@ -115,6 +116,7 @@ class Payment:
         return f"{self.payer:04}{self.serial:012}"
 
 
+HeldT = TypeVar("HeldT", bound="_Held")
 _PLACED = (Code.DAMAGED, Code.BAD_RECORD, Code.BAD_TEXT)
 
 
@@ -243,22 +245,67 @@ def _payment(raw: RawPayment) -> Payment:
     return Payment(**texts, **{name: getattr(raw, name) for name in numbers}, reversed_by=by)
 
 
-class Node:
-    """A node without its file, as the library has it. FileNode has the file as well.
+class _Held:
+    """What the library has behind a handle, until it is let go of."""
 
-    `kept` is how many bytes of the log stay. Behind `serve` come `records`, which are appended to the log's file and synced;
-    `synced`, which says so; `written`, and `clear`. A node that was just opened also wants to hear, by `synced`, that its log is
-    on disk. Until then each call that tells of the node but `heard` raises VogrilasError with UNSYNCED.
+    def __init__(self, handle: ctypes.Structure, let_go: Callable[..., object]) -> None:
+        self._handle, self._let_go = handle, let_go
+        self._lock = threading.Lock()
+
+    def close(self) -> None:
+        """Lets it go. A second close does nothing."""
+        with self._lock:
+            self._let_go(ctypes.byref(self._handle))
+
+    def __enter__(self: HeldT) -> HeldT:
+        return self
+
+    def __exit__(self, *_about: object) -> None:
+        self.close()
+
+    def __del__(self) -> None:
+        if hasattr(self, "_lock"):
+            self.close()
+
+
+class Settings(_Held):
+    """Settings that are opened once, for any number of nodes: `Node(settings, ..)` and `FileNode(settings, ..)` take them in the place of the
+    bytes of a settings file, and what nodes under the same settings have in common is in memory once. They may be closed before the
+    nodes that were opened under them, which go on. A lock lets one node at a time be opened under them.
     """
 
-    def __init__(self, settings: bytes, name: str, log: bytes = b"") -> None:
-        self._handle = Handle()
-        self._lock = threading.Lock()
+    def __init__(self, text: bytes) -> None:
+        super().__init__(SettingsHandle(), LIBRARY.vogrilas_close_settings)
+        text, seed = as_bytes(text, "settings"), os.urandom(16)
+        check_code(LIBRARY.vogrilas_open_settings(ctypes.byref(self._handle), text, len(text), seed, len(seed)))
+
+    def open_node(self, node: ctypes.Structure, name: bytes, log: bytes, kept: ctypes.c_size_t) -> int:
+        """What the library says to a node that is to be opened under these settings. For Node."""
+        given = (name, len(name), log, len(log), ctypes.byref(kept))
+        with self._lock:
+            code: int = LIBRARY.vogrilas_open_under(ctypes.byref(node), ctypes.byref(self._handle), *given)
+        return code
+
+
+class Node(_Held):
+    """A node without its file, as the library has it. FileNode has the file as well.
+
+    `log` is what the log's file has, which may go on after closed ones, and `kept` how many bytes of it stay. Behind `serve` come `records`, which are appended to the log's file and synced;
+    `synced`, which says so; `written`, and `clear`. A node that was just opened also wants to hear, by `synced`, that its log is
+    on disk. Until then each call that tells of the node but `heard` raises VogrilasError with UNSYNCED. Closed, it is let go of with
+    what is not on disk.
+    """
+
+    def __init__(self, settings: Union[bytes, Settings], name: str, log: bytes = b"") -> None:
+        super().__init__(Handle(), LIBRARY.vogrilas_close)
         kept = ctypes.c_size_t()
-        settings, word, log = as_bytes(settings, "settings"), as_name(name), as_bytes(log, "a log")
-        seed = os.urandom(16)
-        given = (settings, len(settings), word, len(word), log, len(log), seed, len(seed))
-        code = LIBRARY.vogrilas_open(ctypes.byref(self._handle), *given, ctypes.byref(kept))
+        if isinstance(settings, Settings):
+            code = settings.open_node(self._handle, as_name(name), as_bytes(log, "a log"), kept)
+        else:
+            settings, word, log = as_bytes(settings, "settings"), as_name(name), as_bytes(log, "a log")
+            seed = os.urandom(16)
+            given = (settings, len(settings), word, len(word), log, len(log), seed, len(seed))
+            code = LIBRARY.vogrilas_open(ctypes.byref(self._handle), *given, ctypes.byref(kept))
         check_code(code, kept.value)
         self.name = name
         self.kept: int = kept.value
@@ -323,7 +370,7 @@ class Node:
 
     @property
     def calls(self) -> int:
-        """How many calls the node's log has."""
+        """How many calls the node's log has, those of closed logs before it included."""
         return self._number(LIBRARY.vogrilas_calls)
 
     @property
@@ -385,21 +432,6 @@ class Node:
                     check_code(code)
                     return [_payment(one) for one in raw[: count.value]]
                 room = count.value
-
-    def close(self) -> None:
-        """Lets the node go, with what is not on disk. A second close does nothing."""
-        with self._lock:
-            LIBRARY.vogrilas_close(ctypes.byref(self._handle))
-
-    def __enter__(self) -> Node:
-        return self
-
-    def __exit__(self, *_about: object) -> None:
-        self.close()
-
-    def __del__(self) -> None:
-        if hasattr(self, "_lock"):
-            self.close()
 
 
 def read_said(written: bytes) -> Said:

@@ -4,9 +4,7 @@ ghost use Rattle.std.specs.Prelude.{OnOk};
 ghost use Rattle.table_text.specs.Adding.{Adds};
 ghost use Rattle.table_text.specs.Rows.{head_text};
 ghost use Rattle.log_audit.specs.Tables.{table_names};
-ghost use Rattle.log_audit.specs.LoneTelling.{lone_names};
-ghost use Rattle.log_audit.specs.declared.lone_tables.LoneTable.TheVariants.{Open};
-ghost use Rattle.log_audit.specs.declared.tables.table.Table.TheVariants.{Payments, Entries, Rows, Packets, Counted as CountedTable};
+ghost use Rattle.log_audit.specs.declared.tables.table.Table.TheVariants.{Payments, Entries, Rows, Packets, Counted as CountedTable, Open};
 
 use std::alloc::AllocError;
 use table_text::put_head;
@@ -127,7 +125,7 @@ pub(crate) fn put_counted_names(out: &mut Vec<u8>) -> Result<(), AllocError>
 
 /// Appends the names of the columns of entries without an answer.
 pub(crate) fn put_open_names(out: &mut Vec<u8>) -> Result<(), AllocError>
-    ensures { OnOk result (Adds out.old out.new (head_text (lone_names Open))) }
+    ensures { OnOk result (Adds out.old out.new (head_text (table_names Open))) }
 {
     put_head(out, &[b"pharmacy", b"number", b"kind", b"ticks"])
 }

@@ -1,17 +1,21 @@
-//! The tables of what a run left.
+//! The tables of what a run left, or of logs one by one.
 
 ghost use Rattle.std.specs.Prelude.{◌≡◌, OnOk};
 ghost use Rattle.std.specs.List.{flat_map};
-ghost use Rattle.world_core.specs.Parts.{context_of};
 ghost use Rattle.table_text.specs.Adding.{Adds};
-ghost use Rattle.table_text.specs.Rows.{head_text};
+ghost use Rattle.table_text.specs.Rows.{head_text, list_text, rows_text};
+ghost use Rattle.table_text.specs.declared.layout.Style.TheVariants.{Json};
 ghost use Rattle.pharmacy_journal.specs.Counting.{has_auth};
-ghost use Rattle.log_audit.specs.Tables.{node_payments, node_entries, node_counted_rows, node_rulings, world_payments, table_rows, table_names, table_csv, table_json, table_name, table_member, table_members};
-ghost use Rattle.log_audit.specs.Outgoing.{Puts, PutsRows, TellsPut};
+ghost use Rattle.log_audit.specs.TabledSeen.{tabled_rows};
+ghost use Rattle.log_audit.specs.Tables.{node_payments, node_entries, node_counted_rows, node_rulings, world_payments, table_rows, table_names, table_csv, table_name, table_member, table_members};
+ghost use Rattle.log_audit.specs.Outgoing.{PutsRows, TellsPut, TellsText};
 
+use crate::alone::Lone;
+use crate::lone_tables::put_lone_table;
 use crate::outgoing::{Outgoing, TextSink};
 use crate::tables::columns::{
-    put_counted_names, put_entry_names, put_packet_names, put_payment_names, put_row_names,
+    put_counted_names, put_entry_names, put_open_names, put_packet_names, put_payment_names,
+    put_row_names,
 };
 use crate::tables::counted::counted_auths;
 use crate::tables::counting::put_journal_counted;
@@ -29,16 +33,18 @@ use world_core::World;
 /// Which table.
 #[derive(Clone, Copy, PartialEq, Eq)]
 pub enum Table {
-    /// Each payment of each book.
+    /// Each payment of each book; of logs one by one counted where a pharmacy of these logs counts it.
     Payments,
     /// Each entry of each journal.
     Entries,
     /// Each transaction of each row of each book.
     Rows,
-    /// Each packet that was sent.
+    /// Each packet that was sent; none of logs one by one.
     Packets,
     /// Each payment that a pharmacy counts.
     Counted,
+    /// Each entry without an answer, and how many ticks came after its submission; none of a run.
+    Open,
 }
 
 impl Table {
@@ -52,72 +58,78 @@ impl Table {
             Table::Rows => b"rows",
             Table::Packets => b"packets",
             Table::Counted => b"counted",
+            Table::Open => b"open",
         }
     }
 }
 
-/// Appends a table of what a run left as CSV: a line of the names of its columns, and a line for each row. `senders` has
-/// for each packet the event that sent it.
+/// What tables are told of.
+#[derive(Clone, Copy)]
+pub(crate) enum Tabled<'a> {
+    /// The world that a run left, and for each packet the event that sent it.
+    Run(&'a World, &'a [u64]),
+    /// Logs one by one.
+    Alone(&'a [Lone<'a>]),
+}
+
+/// Appends a table as CSV: a line of the names of its columns, and a line for each row.
+#[tactic(auto, unfolding(crate::specs::Tables::table_csv))]
 pub(crate) fn put_csv<K: TextSink + Drop>(
     alloc: Global,
     out: &mut Outgoing<K>,
-    world: &World,
-    senders: &[u64],
+    tabled: Tabled<'_>,
     table: Table,
 ) -> Result<(), AllocError>
-    ensures { OnOk result (Puts out.old out.new (table_csv (context_of world.now) world.now.world senders.now table)) }
+    ensures { TellsText out.old out.new (λ ctx. table_csv (tabled_rows ctx tabled.entry) table) result }
 {
     let mut names = out.piece();
     put_names(&mut names, table)?;
     out.put(names.as_slice())?;
-    put_table(alloc, out, Style::Csv, world, senders, table)
+    put_table(alloc, out, Style::Csv, tabled, table)
 }
 
-/// Appends all tables of what a run left as members of an object of JSON, each after a comma.
+/// Appends all tables as members of an object of JSON, each after a comma; this one is told before the last.
 pub(crate) fn put_json<K: TextSink + Drop>(
     alloc: Global,
     out: &mut Outgoing<K>,
-    world: &World,
-    senders: &[u64],
+    tabled: Tabled<'_>,
+    own: Table,
 ) -> Result<(), AllocError>
-    ensures { OnOk result (Puts out.old out.new (table_members (context_of world.now) world.now.world senders.now)) }
+    ensures { TellsText out.old out.new (λ ctx. table_members (tabled_rows ctx tabled.entry) own) result }
 {
-    put_member(alloc, out, world, senders, Table::Payments)?;
-    put_member(alloc, out, world, senders, Table::Entries)?;
-    put_member(alloc, out, world, senders, Table::Rows)?;
-    put_member(alloc, out, world, senders, Table::Packets)?;
-    put_member(alloc, out, world, senders, Table::Counted)
+    put_member(alloc, out, tabled, Table::Payments)?;
+    put_member(alloc, out, tabled, Table::Entries)?;
+    put_member(alloc, out, tabled, Table::Rows)?;
+    put_member(alloc, out, tabled, own)?;
+    put_member(alloc, out, tabled, Table::Counted)
 }
 
 /// Appends a table as a member of an object of JSON, after a comma.
 fn put_member<K: TextSink + Drop>(
     alloc: Global,
     out: &mut Outgoing<K>,
-    world: &World,
-    senders: &[u64],
+    tabled: Tabled<'_>,
     table: Table,
 ) -> Result<(), AllocError>
-    ensures { OnOk result (Puts out.old out.new
-        (table_member (context_of world.now) world.now.world senders.now table)) }
+    ensures { TellsText out.old out.new (λ ctx. table_member (tabled_rows ctx tabled.entry) table) result }
 {
     out.put(b",\n\"")?;
     out.put(table.name())?;
     out.put(b"\":")?;
-    put_rows_list(alloc, out, world, senders, table)
+    put_rows_list(alloc, out, tabled, table)
 }
 
 /// Appends the rows of a table as a list of JSON.
 fn put_rows_list<K: TextSink + Drop>(
     alloc: Global,
     out: &mut Outgoing<K>,
-    world: &World,
-    senders: &[u64],
+    tabled: Tabled<'_>,
     table: Table,
 ) -> Result<(), AllocError>
-    ensures { OnOk result (Puts out.old out.new (table_json (context_of world.now) world.now.world senders.now table)) }
+    ensures { TellsText out.old out.new (λ ctx. list_text (rows_text Json (tabled_rows ctx tabled.entry table))) result }
 {
     out.put(b"[")?;
-    put_table(alloc, out, Style::Json, world, senders, table)?;
+    put_table(alloc, out, Style::Json, tabled, table)?;
     out.end_list()
 }
 
@@ -131,6 +143,7 @@ fn put_names(out: &mut Vec<u8>, table: Table) -> Result<(), AllocError>
         Table::Rows => put_row_names(out),
         Table::Packets => put_packet_names(out),
         Table::Counted => put_counted_names(out),
+        Table::Open => put_open_names(out),
     }
 }
 
@@ -139,12 +152,27 @@ fn put_table<K: TextSink + Drop>(
     alloc: Global,
     out: &mut Outgoing<K>,
     style: Style,
+    tabled: Tabled<'_>,
+    table: Table,
+) -> Result<(), AllocError>
+    ensures { TellsPut style out.old out.new (λ ctx. tabled_rows ctx tabled.entry table) result }
+{
+    match tabled {
+        Tabled::Run(world, senders) => put_run_table(alloc, out, style, world, senders, table),
+        Tabled::Alone(lones) => put_lone_table(alloc, out, style, lones, table),
+    }
+}
+
+/// Appends the rows of a table of what a run left.
+fn put_run_table<K: TextSink + Drop>(
+    alloc: Global,
+    out: &mut Outgoing<K>,
+    style: Style,
     world: &World,
     senders: &[u64],
     table: Table,
 ) -> Result<(), AllocError>
-    ensures { OnOk result (PutsRows style out.old out.new
-        (table_rows (context_of world.now) world.now.world senders.now table)) }
+    ensures { TellsPut style out.old out.new (λ ctx. table_rows ctx world.now.world senders.now table) result }
 {
     match table {
         Table::Payments => put_payments(alloc, out, style, world),
@@ -152,6 +180,7 @@ fn put_table<K: TextSink + Drop>(
         Table::Rows => put_rows(alloc, out, style, world.payers()),
         Table::Packets => put_packets(out, style, world.packets(), senders),
         Table::Counted => put_counted(alloc, out, style, world.pharmacies()),
+        Table::Open => Ok(()),
     }
 }
 
@@ -162,7 +191,7 @@ fn put_payments<K: TextSink + Drop>(
     style: Style,
     world: &World,
 ) -> Result<(), AllocError>
-    ensures { OnOk result (PutsRows style out.old out.new (world_payments (context_of world.now) world.now.world)) }
+    ensures { TellsPut style out.old out.new (λ ctx. world_payments ctx world.now.world) result }
 {
     let counted = counted_auths(alloc, world.pharmacies())?;
     put_paid(alloc, out, style, world.payers(), &counted)

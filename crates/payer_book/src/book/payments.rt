@@ -10,14 +10,15 @@ ghost use Rattle.payer_book.specs.PaymentPlaces.{IsPlaceOf};
 ghost use Rattle.payer_book.specs.Matches.{tally, is_match, matched_number, tally_between, fill_for};
 
 use crate::book::payment::{Payment, Standing};
-use crate::keys::{HashKeys, HashStart};
+use crate::book::place_map::PlaceMap;
+use crate::keys::HashKeys;
 use crate::ruling::changes::{Change, payments_in};
 use crate::ruling::matches::{Matches, is_match};
 use bin_routes::PayerNo;
 use claim_profile::{Auth, Fill, Reversal};
 use envelope::TxnId;
 use std::alloc::{AllocError, Global};
-use std::collections::HashMap;
+use std::hash::Hash;
 use std::marker::Model;
 
 /// The payments of a payer, whose first one has the serial number `first`, and where each fill's standing one is. Each fill
@@ -28,13 +29,13 @@ pub(crate) struct Payments {
     first: u64,
     numbers: u16,
     list: Vec<Payment>,
-    standing: HashMap<Fill, usize, HashStart>,
+    standing: PlaceMap<Fill>,
 }
 
 impl Model for Payments {
     ghost use Rattle.std.specs.Prelude.{◌-◌, min, vec_len, vec_capacity};
-    ghost use Rattle.std.specs.HashMap.{get, spare};
     ghost use Rattle.payer_book.specs.Ledger.{Ledger};
+    ghost use Rattle.payer_book.specs.PlaceMaps.{place_in, room_in};
     ghost use Rattle.payer_book.specs.PaymentPlaces.{IsIndexed};
 
     ghost Value = { Ledger };
@@ -43,10 +44,10 @@ impl Model for Payments {
       payer = p.payer;
       first = p.first;
       payments = p.list.items;
-      room = min (vec_capacity p.list - vec_len p.list) (spare p.standing);
+      room = min (vec_capacity p.list - vec_len p.list) (room_in p.standing);
     } };
 
-    ghost invariant = { λ p. IsIndexed p.payer p.first p.numbers p.list.items (get ⟦<Fill as PartialEq>⟧.eq p.standing) };
+    ghost invariant = { λ p. IsIndexed p.payer p.first p.numbers p.list.items (place_in ⟦<Fill as PartialEq>⟧.eq ⟦<Fill as Hash>⟧.hash_input p.standing) };
 }
 
 impl Payments {
@@ -62,7 +63,7 @@ impl Payments {
             first,
             numbers: 0,
             list: Vec::new(alloc),
-            standing: HashMap::with_hasher(alloc, keys.start()),
+            standing: PlaceMap::new(alloc, keys.start()),
         }
     }
 
@@ -118,7 +119,7 @@ impl Payments {
         ensures ledger { IsLedger self.now }
     {
         match self.standing.get(fill) {
-            Some(place) => standing_at(&self.list, *place),
+            Some(place) => standing_at(&self.list, place),
             None => None,
         }
     }
@@ -201,7 +202,7 @@ impl Payments {
     {
         let place = self.list.len();
         self.numbers = above(self.numbers, payment.claim().fill.fill);
-        let _ = self.standing.insert(payment.claim().fill, place);
+        self.standing.insert(payment.claim().fill, place);
         self.list.push_reserved(Payment::Standing(payment));
     }
 
@@ -216,7 +217,7 @@ impl Payments {
             return;
         };
         if let Some(payment) = standing_at(&self.list, place) {
-            let _ = self.standing.remove(&payment.claim().fill);
+            self.standing.remove(&payment.claim().fill);
             self.list[place] = Payment::Reversed(payment.copy().reverse(by));
         }
     }

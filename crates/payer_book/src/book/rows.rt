@@ -5,18 +5,19 @@ ghost use Rattle.std.specs.Option.{option_copied};
 ghost use Rattle.claim_model.specs.Book.{row_of};
 ghost use Rattle.payer_book.specs.RowPlaces.{IsPlaceOf};
 
+use crate::book::place_map::PlaceMap;
 use crate::book::row::Row;
-use crate::keys::{HashKeys, HashStart};
+use crate::keys::HashKeys;
 use envelope::TxnId;
 use std::alloc::{AllocError, Global};
-use std::collections::HashMap;
+use std::hash::Hash;
 use std::marker::Model;
 
 /// The list of rows, with an index from id to place.
 #[derive(Drop)]
 pub(crate) struct Rows {
     list: Vec<Row>,
-    places: HashMap<TxnId, usize, HashStart>,
+    places: PlaceMap<TxnId>,
 }
 
 impl Model for Rows {
@@ -25,12 +26,12 @@ impl Model for Rows {
 
     ghost Value = { List RowParts };
 
-    ghost use Rattle.std.specs.HashMap.{get};
+    ghost use Rattle.payer_book.specs.PlaceMaps.{place_in};
     ghost use Rattle.payer_book.specs.RowPlaces.{IsPlaced};
 
     ghost view = { λ r. r.list.items };
 
-    ghost invariant = { λ r. IsPlaced r.list.items (get ⟦<TxnId as PartialEq>⟧.eq r.places) };
+    ghost invariant = { λ r. IsPlaced r.list.items (place_in ⟦<TxnId as PartialEq>⟧.eq ⟦<TxnId as Hash>⟧.hash_input r.places) };
 }
 
 impl Rows {
@@ -40,7 +41,7 @@ impl Rows {
     {
         Rows {
             list: Vec::new(alloc),
-            places: HashMap::with_hasher(alloc, keys.start()),
+            places: PlaceMap::new(alloc, keys.start()),
         }
     }
 
@@ -51,7 +52,7 @@ impl Rows {
 
     /// The keys that the rows are found by.
     pub(crate) fn keys(&self) -> HashKeys {
-        HashKeys::from_start(*self.places.hasher())
+        HashKeys::from_start(self.places.start())
     }
 
     /// How many rows there are.
@@ -72,10 +73,7 @@ impl Rows {
     pub(crate) fn place_of(&self, id: TxnId) -> Option<usize>
         ensures { IsPlaceOf id self.now result }
     {
-        match self.places.get(&id) {
-            Some(place) => Some(*place),
-            None => None,
-        }
+        self.places.get(&id)
     }
 
     /// The row at a place.
@@ -111,13 +109,9 @@ impl Rows {
         ensures err { OnErr result (self.new ≡ self.old) }
     {
         self.list.reserve(1)?;
-        let place = self.list.len();
-        match self.places.insert(row.id(), place) {
-            Ok(_) => {
-                self.list.push_reserved(row);
-                Ok(())
-            }
-            Err(_) => Err(AllocError),
-        }
+        self.places.reserve(1)?;
+        self.places.insert(row.id(), self.list.len());
+        self.list.push_reserved(row);
+        Ok(())
     }
 }

@@ -41,7 +41,7 @@ pub returns-clause-made : goal.returns-clause-made
 returns-clause-made c =
     summed_is c.args.rows.now _ c.args.asked.now (map fields_of c.in_ok-table.table.records.items) c.in_ok-columns.columns (lines_seen c.in_ok-rulings.rulings.lines.items) c.in_ok-rulings.rulings.up_to
     c.in_ok-before.before.items c.in_ok-moves.moves.items (lines_seen c.in_ok-lines.lines.items) c.in_ok-period.period c.in_ok-settled.settled
-    c.in_ok-table.ensures.read c.in_ok-columns.ensures.read c.in_ok-rulings.ensures.read
+    c.in_ok-table.ensures.read c.in_ok-columns.ensures.are c.in_ok-rulings.ensures.read
     (rw c.as_slice.ensures.value at c.in_ok-before.ensures) (rw c.as_slice-2.ensures.value at c.in_ok-lines.ensures.read) (rw c.as_slice-3.ensures.value at c.in_ok-moves.ensures)
     (rw (c.as_slice-4.ensures.value, c.as_slice-5.ensures.value) at c.in_ok-period.ensures.figures) c.in_ok-settled.ensures.whole c.in_ok-settled.ensures.one
     (rw (c.in_ok-put_sum_names.ensures, c.new-out.ensures.items) at c.in_ok-put_sums.ensures)

@@ -11,4 +11,4 @@ returns-clause-on c = c.in_ok-ask.ensures.on (start_ends c.args.service.now)
 pub returns-clause-started : goal.returns-clause-started
 returns-clause-started c =
     subst (λ (kept : List ℕ). IsStarted c.ask.new.service kept) (sym c.in_ok-kept.ensures.items)
-    (subst (λ (s : Serving). IsStarted s c.in-Some.record.now) (sym c.in_ok-ask.ensures.asked) (line_starts c.args.service.now c.in-Some.record.now c.in-Some.ensures))
+    (subst (λ (s : Serving). IsStarted s c.in-Some.record.now) (sym c.in_ok-ask.ensures.asked) (line_starts c.args.service.now c.in-Some.record.now c.in-Some.ensures.record))

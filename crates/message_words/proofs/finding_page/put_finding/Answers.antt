@@ -1,4 +1,4 @@
-use Rattle.std.proofs.Common.{◌++◌, codes}
+use Rattle.std.proofs.Common.{codes}
 use Rattle.message_words.specs.Encoded.{word_member}
 use Rattle.message_words.specs.Sayings.{finding_head, finding_object}
 use Rattle.message_words.proofs.Written.{four}

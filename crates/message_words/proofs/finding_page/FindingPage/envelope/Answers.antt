@@ -1,6 +1,6 @@
-use Rattle.std.proofs.Common.{ℕ, List, [], ◌∷◌, codes, ap, sym, subst, ◌∙◌}
-use Rattle.message_words.specs.FaultWords.{envelope_said, opened_members, opened_said, opened_words}
-use Rattle.message_words.specs.Sayings.{Finds, Said, says}
+use Rattle.std.proofs.Common.{[], ◌∷◌, ap, sym, subst, ◌∙◌}
+use Rattle.message_words.specs.FaultWords.{carries_said, envelope_said, opened_said}
+use Rattle.message_words.specs.Sayings.{Finds, Said}
 use Rattle.message_words.proofs.Envelopes.{anywhere}
 use Rattle.message_words.proofs.finding_page.FindingPage.envelope.Goals as goal
 
@@ -8,7 +8,7 @@ pub returns-in-Ok : goal.returns-in-Ok
 unfolding envelope_said
 returns-in-Ok c =
     subst (λ (s : Said). Finds (s ∷ []) c.args.self.now c.opened.new.self)
-    ((λ i. says (codes "envelope") (opened_members (c.kind.ensures i) (c.id.ensures i)) (opened_words (c.kind.ensures i) (c.id.ensures i))) ∙ ap opened_said (sym c.in-Ok.is ∙ c.read.ensures.exact)
+    ((λ i. carries_said (c.kind.ensures i) (c.id.ensures i)) ∙ ap opened_said (sym c.in-Ok.is ∙ c.read.ensures.exact)
     ∙ anywhere c.args.bytes.ref_ptr (0, 0) c.args.bytes.now)
     c.opened.ensures
 

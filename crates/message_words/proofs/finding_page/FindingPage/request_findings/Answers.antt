@@ -1,4 +1,4 @@
-use Rattle.std.proofs.Common.{◌+◌, List, drop, get_or, map, refl, sym, subst, arith}
+use Rattle.std.proofs.Common.{◌+◌, List, drop, get_or, refl, sym, subst, arith}
 use Rattle.std.proofs.lemmas.List.{drop_more, drop_all}
 use Rattle.d0_segments.specs.FramedParts.{framed_parts}
 use Rattle.message_words.specs.declared.findings.Finding.{Finding}

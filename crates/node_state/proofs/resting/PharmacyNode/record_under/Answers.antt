@@ -1,11 +1,17 @@
 use Rattle.std.proofs.lemmas.Option.{IfSome_then}
 use Rattle.std.proofs.Common.{sym, ap, ◌∙◌}
 use Rattle.std.specs.Option.{option_copied}
-use Rattle.node_state.proofs.AtRest.{pharmacy_record}
+use Rattle.node_state.proofs.AtRest.{none_then, pharmacy_record, pharmacy_unrecorded}
 use Rattle.node_state.proofs.resting.PharmacyNode.record_under.Goals as goal
 
-pub returns-in-AtRest : goal.returns-in-AtRest
-returns-in-AtRest c = λ s same.
+pub returns-in-AtRest-clause-record : goal.returns-in-AtRest-clause-record
+returns-in-AtRest-clause-record c = λ s same.
     rw (← c.self.view_is, c.in-AtRest.is)
-    (IfSome_then (option_copied c.record_under.result) c.record_under.ensures
+    (IfSome_then (option_copied c.record_under.result) c.record_under.ensures.record
     (λ bytes reads. pharmacy_record s c.args.pharmacies.now c.args.number c.in_ok-settings.settings.now c.in-AtRest.kept bytes same (sym c.of_number.ensures ∙ ap option_copied c.in_ok-settings.was) reads))
+
+pub returns-in-AtRest-clause-none : goal.returns-in-AtRest-clause-none
+returns-in-AtRest-clause-none c = λ s same.
+    rw (← c.self.view_is, c.in-AtRest.is)
+    (none_then c.record_under.result c.record_under.ensures.none
+    (pharmacy_unrecorded s c.args.pharmacies.now c.args.number c.in_ok-settings.settings.now c.in-AtRest.kept same (sym c.of_number.ensures ∙ ap option_copied c.in_ok-settings.was)))

@@ -26,12 +26,12 @@ invariant_of-self c =
     let s : Standing = c.in-Some-standing_at.payment.now in
     rw (c.reverse.ensures, c.copy.ensures)
     (indexed_less c.self.inside.payer c.self.inside.first c.self.inside.numbers c.self.inside.list.items _ _ c.args.auth c.args.by s c.in-Some.place c.self.invariant (there c) (auth_at c.args.auth c.self.inside.list.items s (paid c))
-    (less_by s c.claim.result.now.fill _ _ (ap (λ x. x.fill) c.claim.ensures) c.remove.ensures.updates.0))
+    (less_by s c.claim.result.now.fill _ _ (ap (λ x. x.fill) c.claim.ensures) c.remove.ensures.less))
 
 pub returns-in-Some-standing_at-clause-payments : goal.returns-in-Some-standing_at-clause-payments
 returns-in-Some-standing_at-clause-payments c =
     let s : Standing = c.in-Some-standing_at.payment.now in
-    let less = less_by s c.claim.result.now.fill _ _ (ap (λ x. x.fill) c.claim.ensures) c.remove.ensures.updates.0 in
+    let less = less_by s c.claim.result.now.fill _ _ (ap (λ x. x.fill) c.claim.ensures) c.remove.ensures.less in
     rw (c.reverse.ensures, c.copy.ensures)
     (reversed_list c.self.inside.payer c.self.inside.first c.self.inside.numbers c.self.inside.list.items _ _ c.args.auth c.args.by s c.in-Some.place c.self.invariant (there c) (auth_at c.args.auth c.self.inside.list.items s (paid c)) less
     ∙ ap (λ (l : Ledger). map (after_reversal c.args.auth c.args.by) l.payments) c.self.view_is)

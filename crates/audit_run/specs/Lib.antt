@@ -1,0 +1,4 @@
+pub mod Completing
+pub mod Judged
+pub mod NoVerdict
+pub mod Putting

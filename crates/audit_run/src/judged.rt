@@ -1,0 +1,126 @@
+//! Which logs are judged.
+
+ghost use Rattle.std.specs.Prelude.{◌≡◌, None, IfErr, IfOk};
+ghost use Rattle.log_audit.specs.declared.fault.AuditFault.TheVariants.{OutOfMemory};
+ghost use Rattle.log_audit.specs.Calls.{IsCallsTable};
+ghost use Rattle.log_audit.specs.Given.{bytes_of, given_of};
+ghost use Rattle.log_audit.specs.Refused.{IsUntabled};
+ghost use Rattle.audit_run.specs.Judged.{AsGiven, IsUnjudged, Judges, TakesRead, given_in, logs_in, may_go_on};
+
+use crate::completing::{Judged, completed};
+use audit_words::Judging;
+use log_audit::{AuditFault, Audited, Form, GivenLog, calls_table, read_alone, read_audited};
+use log_turning::LogBehind;
+use std::alloc::{AllocError, Global};
+
+/// The settings, a TOML document, and logs, as their files were read.
+#[derive(Drop)]
+pub struct Files {
+    /// The settings.
+    pub text: Vec<u8>,
+    /// The logs, in order.
+    pub logs: Vec<LogBehind>,
+}
+
+/// Whether logs may go on after closed ones that do not stand beside them: those that are judged one by one. Price changes are those
+/// of all calls.
+pub fn may_go_on(by: Judging) -> bool
+    ensures { result ≡ may_go_on by }
+{
+    match by.form {
+        Form::Prices => false,
+        Form::Lines => by.alone,
+        Form::Json => by.alone,
+        Form::Csv(_) => by.alone,
+        Form::Schedule => by.alone,
+    }
+}
+
+/// Reads the settings and the logs, of which each may go on after closed ones where `may_go_on` says so; and makes the logs of
+/// switches that kept none, where all are judged together.
+///
+/// # Errors
+/// Those of `read_alone` where logs may go on, else those of `read_audited`.
+pub fn judged_logs(alloc: Global, files: Files, by: Judging) -> Result<Judged, AuditFault>
+    // What is judged is what the text spells and the logs are; and it is told of which switches logs were made.
+    ensures given { IfOk result (λ judged. Judges by files.text.items files.logs.items judged) }
+    // The cause is true, and those before it do not stand.
+    ensures refused { IfErr result (λ why. IsUnjudged by files.text.items files.logs.items why) }
+{
+    let Files { text, logs } = files;
+    if may_go_on(by) {
+        let read = read_alone(alloc, text, given_logs(alloc, logs)?)?;
+        return Ok(as_given(alloc, read));
+    }
+    let read = read_audited(alloc, text, whole_logs(alloc, logs)?)?;
+    take_read(alloc, read, by.alone)
+}
+
+/// The records of whole logs as CSV; nothing is judged.
+///
+/// # Errors
+/// Those of `calls_table`.
+pub fn calls_of(alloc: Global, files: Files) -> Result<Vec<u8>, AuditFault>
+    // What is told is what the logs are under the settings that the text spells.
+    ensures given { IfOk result (λ out. IsCallsTable files.text.items (logs_in files.logs.items) out.items) }
+    // The cause is true, and those before it do not stand.
+    ensures refused { IfErr result (λ why. IsUntabled files.text.items (logs_in files.logs.items) why) }
+{
+    let Files { text, logs } = files;
+    let whole = whole_logs(alloc, logs)?;
+    calls_table(alloc, text.as_slice(), whole)
+}
+
+/// Takes whole logs that were read: one by one as they are, together with those that are made.
+fn take_read(alloc: Global, read: Audited, alone: bool) -> Result<Judged, AuditFault>
+    ensures takes { IfOk result (λ judged. TakesRead alone read judged) }
+    ensures memory { IfErr result (λ why. why ≡ OutOfMemory) }
+{
+    if alone {
+        Ok(as_given(alloc, read))
+    } else {
+        completed(alloc, read)
+    }
+}
+
+/// Logs as they were given.
+fn as_given(alloc: Global, audited: Audited) -> Judged
+    ensures { AsGiven audited result }
+{
+    Judged {
+        audited,
+        made: Vec::new(alloc),
+    }
+}
+
+/// A log that goes on after no other.
+pub fn whole(log: Vec<u8>) -> LogBehind
+    ensures log { result.log ≡ log }
+    ensures rest { result.rest ≡ None }
+{
+    LogBehind { rest: None, log }
+}
+
+/// Logs without what they begin with.
+fn whole_logs(alloc: Global, logs: Vec<LogBehind>) -> Result<Vec<Vec<u8>>, AllocError>
+    ensures { IfOk result (λ whole. bytes_of whole.items ≡ logs_in logs.items) }
+{
+    let mut whole = Vec::new(alloc);
+    for log in logs {
+        let LogBehind { rest: _, log } = log;
+        whole.push(log)?;
+    }
+    Ok(whole)
+}
+
+/// Logs as they are handed in, with what they begin with.
+fn given_logs(alloc: Global, logs: Vec<LogBehind>) -> Result<Vec<GivenLog>, AllocError>
+    ensures { IfOk result (λ given. given_of given.items ≡ given_in logs.items) }
+{
+    let mut given = Vec::new(alloc);
+    for log in logs {
+        let LogBehind { rest, log } = log;
+        given.push(GivenLog { rest, log })?;
+    }
+    Ok(given)
+}

@@ -1,0 +1,4 @@
+pub mod FieldsBack
+pub mod FieldsOnly
+pub mod CodecLaws
+pub mod Loops

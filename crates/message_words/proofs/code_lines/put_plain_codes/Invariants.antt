@@ -1,0 +1,10 @@
+use Rattle.std.proofs.Common.{drop, []}
+use Rattle.message_words.specs.declared.text.Text.{Text}
+use Rattle.message_words.specs.Facts.{plain_codes}
+use Rattle.message_words.specs.Encoded.{json_letters}
+use Rattle.message_words.specs.Written.{Takes}
+use Rattle.message_words.proofs.code_lines.put_plain_codes.Given as goal
+
+-- whatever adds the codes that are left to the text adds all of them to the first one
+abbrev pub invariant-loop-code : goal.invariant-loop-code
+invariant-loop-code l = (n : Text) → Takes (json_letters (plain_codes l.front (drop l.code-index l.rejects))) l.out n → Takes (json_letters (plain_codes [] l.rejects)) l.fn.out n

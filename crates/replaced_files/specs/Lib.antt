@@ -1,0 +1,4 @@
+-- In the order in which one explains them.
+pub mod Deeds
+pub mod Plans
+pub mod Deaths
