@@ -31,7 +31,7 @@
 /* The status where the program cannot be traced. */
 #define FAILED 125
 /* How long other threads go on, and how long a sync takes at the most, in microseconds; how often one looks meanwhile. */
-#define MOMENT 10000
+#define MOMENT 30000
 #define SYNC_TAKES 40000
 #define LOOK 200
 #define MOST_THREADS 256

@@ -18,7 +18,7 @@ WAIT_SECONDS = 30
 # How long after one call another is asked, while the first has its sync: tests/kill_at.c has one take longer.
 BETWEEN_SECONDS = 0.01
 # How long what a host said just before its end is on its way.
-LAST_WORDS_SECONDS = 0.03
+LAST_WORDS_SECONDS = 0.06
 
 
 class Died(Exception):
