@@ -1,5 +1,5 @@
 -- Logs that go on after closed ones: what such a log begins with, which stands in a file of its own.
-use Rattle.std.specs.Prelude.{◌≡◌, ℕ, ◌<◌, ◌^◌, ◌==◌, ◌||◌, cond, bytes_eq, List, [], ◌∷◌, ◌++◌, length, take, drop, codes, Option, Some, None}
+use Rattle.std.specs.Prelude.{◌≡◌, ⊤, IsSome, ℕ, ◌<◌, ◌^◌, ◌==◌, ◌||◌, cond, bytes_eq, List, [], ◌∷◌, ◌++◌, length, take, drop, codes, Option, Some, None}
 use Rattle.std.specs.List.{AllByRecursion}
 use Rattle.claim_model.specs.Node.{Node}
 use Rattle.claim_model.specs.Nodes.{AnyNode, node_at, same_node}
@@ -111,6 +111,11 @@ calls_in (Some r) = r.calls
 abbrev pub calls_before : Option (List ℕ) → ℕ
 calls_before None = 0
 calls_before (Some rest) = calls_in (rest_in rest)
+
+-- a log begins with nothing, or with what is a rest
+abbrev pub IsRest : Option (List ℕ) → Type 0
+IsRest None = ⊤
+IsRest (Some rest) = IsSome (rest_in rest)
 
 -- the references of the calls before a log
 abbrev pub references_of : Option Rest → List Reference

@@ -33,6 +33,6 @@ pub use laws::{log_is_its_text, log_reads_back, log_takes_one_more, rests_read_b
 pub use logs::{ReadLog, place_of, read_log, record_bytes, write_log};
 pub use making::{MadeLog, make_as_read};
 pub use references::{Reference, note_reference};
-pub use rests::{Beginning, Rest, begins, calls_before, read_rest, write_rest};
+pub use rests::{Beginning, Rest, begins, calls_before, calls_told, read_rest, write_rest};
 pub use stamps::Stamp;
 pub use version::{LogVersion, is_first};

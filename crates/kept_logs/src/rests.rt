@@ -1,6 +1,6 @@
 //! What a log begins with that goes on after closed ones.
 
-ghost use Rattle.std.specs.Prelude.{◌≡◌, ◌<◌, ◌^◌, length, codes, IfOk, IfSome, IsSome};
+ghost use Rattle.std.specs.Prelude.{◌≡◌, ◌<◌, ◌^◌, length, codes, IfOk, IfSome, IsSome, Some};
 ghost use Rattle.std.specs.List.{AllByRecursion};
 ghost use Rattle.std.specs.Option.{option_copied, option_map};
 ghost use Rattle.world_setup.specs.Seen.{node_seen, settings_seen};
@@ -8,7 +8,7 @@ ghost use Rattle.claim_model.specs.Settings.{opening};
 ghost use Rattle.claim_model.specs.Nodes.{node_at};
 ghost use Rattle.kept_logs.specs.Fits.{FitsNode};
 ghost use Rattle.kept_logs.specs.Frames.{met};
-ghost use Rattle.kept_logs.specs.Rests.{FitsReference, begins, begun_from, behind_met, body_in, calls_before, references_before, references_of, rest_behind, rest_body, rest_in, rest_text, rest_version};
+ghost use Rattle.kept_logs.specs.Rests.{FitsReference, IsRest, begins, begun_from, behind_met, body_in, calls_before, references_before, references_of, rest_behind, rest_body, rest_in, rest_text, rest_version};
 ghost use Rattle.kept_logs.specs.RestSeen.{rest_seen};
 
 use crate::met::{Met, meet};
@@ -199,6 +199,29 @@ pub fn calls_before(alloc: Global, rest: Option<&[u8]>) -> Result<u64, AllocErro
         Some(rest) => Ok(rest.calls),
         None => Ok(0),
     }
+}
+
+/// How many calls were made before a log that begins with what was read as a rest, or with none. What vouches for a rest is not made
+/// again: of bytes that are none any number is told.
+pub fn calls_told(rest: Option<&[u8]>) -> u64
+    ensures { IsRest (option_copied rest.entry) → result ≡ calls_before (option_copied rest.entry) }
+{
+    match rest {
+        Some(bytes) => calls_at(bytes).unwrap_or(0),
+        None => 0,
+    }
+}
+
+/// The count of calls that stands in a rest.
+#[tactic(auto, unfolding(crate::specs::Rests::rest_in, crate::specs::Rests::rest_behind, crate::specs::Rests::fields_codec))]
+fn calls_at(bytes: &[u8]) -> Option<u64>
+    ensures { IfSome (rest_in bytes.now) (λ r. result ≡ Some r.calls) }
+{
+    let named = named(bytes)?;
+    let (_, behind) = take_u8(named)?;
+    let (_, behind) = take_node(behind)?;
+    let (calls, _) = take_u64(behind)?;
+    Some(calls)
 }
 
 /// The node that a log of this name begins with: as the settings open it, or where the log goes on after closed ones, as it was

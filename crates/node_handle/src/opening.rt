@@ -2,7 +2,7 @@
 
 ghost use Rattle.std.specs.Prelude.{◌≡◌, ◌+◌, ◌-◌, ◌⊎◌, length, IfOk, IfErr};
 ghost use Rattle.std.specs.Option.{option_copied};
-ghost use Rattle.kept_logs.specs.Rests.{calls_before};
+ghost use Rattle.kept_logs.specs.Rests.{IsRest, calls_before};
 ghost use Rattle.node_handle.specs.declared.refusal.Refusal.TheVariants.{OutOfMemory};
 ghost use Rattle.node_handle.specs.Calls.{IsNamed, RefusesNode, TellsFault};
 ghost use Rattle.node_handle.specs.Hosting.{just_opened};
@@ -10,7 +10,7 @@ ghost use Rattle.node_handle.specs.Hosting.{just_opened};
 use crate::hosted::Hosted;
 use crate::refusal::{Refusal, refusal_of};
 use crate::seed::keys_of;
-use kept_logs::{LogFault, calls_before};
+use kept_logs::{LogFault, calls_told};
 use log_turning::part_of;
 use node_service::{Service, ServiceFault};
 use schedule::node_in;
@@ -56,17 +56,15 @@ pub(crate) fn boxed(
     stay: usize,
     kept: &mut usize,
 ) -> Result<Box<Hosted>, Refusal>
-    ensures boxed { IfOk result (λ o. (o.value ≡ just_opened (calls_before (option_copied rest.entry)) service)
+    ensures boxed { IfOk result (λ o.
+        (IsRest (option_copied rest.entry) → o.value ≡ just_opened (calls_before (option_copied rest.entry)) service)
         × (kept.new ≡ first + stay)) }
     ensures refused { IfErr result (λ why. (why ≡ OutOfMemory) × (kept.new ≡ kept.old)) }
 {
     let Some(all) = first.checked_add(stay) else {
         return Err(Refusal::OutOfMemory);
     };
-    let Ok(closed) = calls_before(alloc, rest) else {
-        return Err(Refusal::OutOfMemory);
-    };
-    let Ok(node) = Hosted::of(alloc, closed, service) else {
+    let Ok(node) = Hosted::of(alloc, calls_told(rest), service) else {
         return Err(Refusal::OutOfMemory);
     };
     match Box::new(alloc, node) {

@@ -1,6 +1,8 @@
 //! From the file of a log to a node that is served.
 
 ghost use Rattle.std.specs.Prelude.{◌≡◌, [], IfErr, IfOk, OnErr, OnOk};
+ghost use Rattle.std.specs.Option.{option_copied};
+ghost use Rattle.kept_logs.specs.Rests.{IsRest};
 ghost use Rattle.node_service.specs.Serving.{cleared};
 ghost use Rattle.node_process.specs.Acts.{heard};
 ghost use Rattle.node_process.specs.Ends.{Breaks, EndsFor, Stops, TellsLack};
@@ -9,10 +11,10 @@ ghost use Rattle.node_process.specs.Safe.{IsRun, IsUnopened, Serves, Begins, Hea
 use crate::greeting::{greeting, lack};
 use crate::machine::Machine;
 use crate::unserved::Unserved;
-use kept_logs::calls_before;
+use kept_logs::calls_told;
 use node_service::Service;
 use payer_book::HashKeys;
-use std::alloc::{AllocError, Global};
+use std::alloc::Global;
 use std::io;
 use world_setup::Node;
 
@@ -59,25 +61,24 @@ pub(crate) fn open<M: Machine>(
         owner.rest,
         bytes.as_slice(),
     ) {
-        Ok((service, whole)) => match lacking(alloc, owner, &service) {
-            Ok(None) => Ok(Opened {
+        Ok((service, whole)) => match lacking(owner, &service) {
+            None => Ok(Opened {
                 service,
                 whole,
                 size: bytes.len(),
             }),
-            Ok(Some(calls)) => Err(Unserved::FewCalls(calls)),
-            Err(AllocError) => Err(Unserved::OutOfMemory),
+            Some(calls) => Err(Unserved::FewCalls(calls)),
         },
         Err(why) => Err(Unserved::Refused(why)),
     }
 }
 
 /// How many calls a node's logs have, where these are fewer than they are known to have.
-fn lacking(alloc: Global, owner: &Owner<'_>, service: &Service) -> Result<Option<u64>, AllocError>
-    ensures { IfOk result (TellsLack (closed_calls (owner_seen owner.now)) service.now.calls owner.now.least) }
+fn lacking(owner: &Owner<'_>, service: &Service) -> Option<u64>
+    requires { IsRest (option_copied owner.now.rest) }
+    ensures { TellsLack (closed_calls (owner_seen owner.now)) service.now.calls owner.now.least result }
 {
-    let before = calls_before(alloc, owner.rest)?;
-    Ok(lack(before, service.calls(), owner.least))
+    lack(calls_told(owner.rest), service.calls(), owner.least)
 }
 
 /// Has on disk what stays of a log of this many bytes before a word is said: then how many calls it has, and how many were made
@@ -97,8 +98,7 @@ pub(crate) fn lay_down<M: Machine>(
     ensures deaf { OnOk result (heard (M.acts machine.new) ≡ []) }
     ensures why { IfErr result (Stops (owner_seen owner.now) (M.acts machine.new) service.now) }
 {
-    let before = calls_before(alloc, owner.rest)?;
-    let ready = greeting(alloc, before, service.calls())?;
+    let ready = greeting(alloc, calls_told(owner.rest), service.calls())?;
     trim(owner, machine, service, whole, size)?;
     append_head(owner, machine, service, whole)?;
     settle(owner, machine, service, whole)?;

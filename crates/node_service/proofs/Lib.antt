@@ -1,4 +1,5 @@
 pub mod Loops
+pub mod Begun
 pub mod Caps
 pub mod MadeLogs
 pub mod Lines
