@@ -7,7 +7,9 @@
 #include <stdio.h>
 #include <stdlib.h>
 #include <string.h>
+#include <sys/resource.h>
 #include <time.h>
+#include <unistd.h>
 
 #include "vogrilas.h"
 
@@ -18,6 +20,22 @@ static double now(void) {
     struct timespec time;
     clock_gettime(CLOCK_THREAD_CPUTIME_ID, &time);
     return (double)time.tv_sec + (double)time.tv_nsec / 1e9;
+}
+
+/* What the machine's host took from all of its processors so far, in seconds: time that a clock of the processor may count. */
+static double stolen(void) {
+    unsigned long long part[8] = {0};
+    FILE *file = fopen("/proc/stat", "r");
+    if (file == NULL || fscanf(file, "cpu %llu %llu %llu %llu %llu %llu %llu %llu", part, part + 1, part + 2, part + 3, part + 4, part + 5, part + 6, part + 7) != 8) exit(1);
+    fclose(file);
+    return (double)part[7] / (double)sysconf(_SC_CLK_TCK);
+}
+
+/* How often a page was asked of the system. */
+static long faults(void) {
+    struct rusage used;
+    if (getrusage(RUSAGE_THREAD, &used) != 0) exit(1);
+    return used.ru_minflt;
 }
 
 /* What the process has of the machine's memory, in bytes. */
@@ -101,17 +119,23 @@ int main(int count, char **word) {
     check(vogrilas_records(&node, bytes, sizeof bytes, &kept));
     check(vogrilas_kept(&node, kept));
     check(vogrilas_clear(&node));
-    double empty = memory(), longest = 0, pauses = 0, last = now();
+    double empty = memory(), longest = 0, pauses = 0, last = now(), before = stolen();
     printf("%12s %14s %16s %16s %14s %16s\n", "rows", "bytes a row", "a claim, us", "longest, ms", "over 10 ms", "100 payments, us");
     for (uint64_t number = 1; number <= rows; number++) {
         if (number % step == step - LAST + 1 || (number > step && number == rows - LAST + 1)) last = now();
         size_t whole = packet(bytes, request, size, (size_t)(found - request) + 2, number);
+        if (number % 256 == 0) before = stolen();
+        long asked = faults();
         double start = now();
         check(vogrilas_take(&node, "sw1", 3, bytes, whole));
         double took = now() - start;
         keep(&node);
         if (took > longest) longest = took;
         pauses += took > 0.01;
+        if (took > 0.01) {
+            fprintf(stderr, "row %llu: %.1f ms, %ld pages asked for; taken from the machine meanwhile: %.0f ms\n", (unsigned long long)number, took * 1e3,
+                    faults() - asked, (stolen() - before) * 1e3);
+        }
         if (number == step || number == rows) {
             double bytes_a_row = (memory() - empty) / (double)number, a_claim = (now() - last) / LAST * 1e6;
             printf("%12llu %14.0f %16.2f %16.2f %14.0f %16.0f\n", (unsigned long long)number, bytes_a_row, a_claim, longest * 1e3, pauses,
