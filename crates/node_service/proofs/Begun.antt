@@ -1,5 +1,5 @@
 -- What a node begins with that was opened.
-use Rattle.std.proofs.Common.{◌≡◌, ℕ, List, Option, Some, None, IsSome}
+use Rattle.std.proofs.Common.{◌≡◌, ℕ, List, Option, Some, None, IsSome, refl}
 use Rattle.claim_model.specs.Context.{Context}
 use Rattle.claim_model.specs.Logs.{Logged}
 use Rattle.claim_model.specs.Node.{Node}
@@ -15,12 +15,12 @@ use Rattle.node_service.specs.Serving.{Serving}
 -- a replay has something to begin with
 begun : (ctx : Context) (b : Option AnyNode) (calls : List Logged) (after : AnyNode) → replayed_from ctx b calls ≡ Some after → IsSome b
 begun ctx None calls after is = absurd cc
-begun ctx (Some before) calls after is = tt
+begun ctx (Some before) calls after is = refl
 
 -- a node is begun from a rest alone
 rested : (s : Model) (node : Node) (o : Option Rest) → IsSome (begun_from s node o) → IsSome o
-rested s node None h = absurd h
-rested s node (Some r) h = tt
+rested s node None h = absurd cc
+rested s node (Some r) h = refl
 
 is_rest : (s : WorldSettings) (node : Node) (rest : Option (List ℕ)) → IsSome (begins s node rest) → IsRest rest
 is_rest s node None h = tt
