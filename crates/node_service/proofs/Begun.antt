@@ -9,7 +9,9 @@ use Rattle.world_setup.specs.Seen.{settings_seen}
 use Rattle.world_setup.specs.declared.settings.WorldSettings.{WorldSettings}
 use Rattle.crash_safety.specs.Steps.{replayed_from}
 use Rattle.kept_logs.specs.Rests.{Rest, IsRest, begins, begun_from, rest_in}
-use Rattle.node_service.specs.Opened.{IsOpened, MakesAll}
+use Rattle.kept_logs.specs.Stamps.{bare_calls}
+use Rattle.node_logged.specs.Setting.{context_of}
+use Rattle.node_service.specs.Opened.{IsOpened}
 use Rattle.node_service.specs.Serving.{Serving}
 
 -- a replay has something to begin with
@@ -28,4 +30,4 @@ is_rest s node (Some rest) h = rested (settings_seen s) node (rest_in rest) h
 
 -- a node that was opened begins with nothing, or with what is a rest
 pub begins_with_rest : (settings : List ℕ) (node : Node) (rest : Option (List ℕ)) (bytes : List ℕ) (kept : ℕ) (s : Serving) → IsOpened settings node rest bytes kept s → IsRest rest
-begins_with_rest settings node rest bytes kept s opened = is_rest s.settings node rest (begun _ _ _ _ opened.state)
+begins_with_rest settings node rest bytes kept s opened = is_rest s.settings node rest (begun (context_of s.settings) (begins s.settings node rest) (bare_calls opened.log.calls) s.state opened.state)
