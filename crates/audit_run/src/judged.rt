@@ -1,16 +1,15 @@
 //! Which logs are judged.
 
-ghost use Rattle.std.specs.Prelude.{◌≡◌, None, IfErr, IfOk};
+ghost use Rattle.std.specs.Prelude.{◌≡◌, IfErr, IfOk};
 ghost use Rattle.log_audit.specs.declared.fault.AuditFault.TheVariants.{OutOfMemory};
 ghost use Rattle.log_audit.specs.Calls.{IsCallsTable};
 ghost use Rattle.log_audit.specs.Given.{bytes_of, given_of};
-ghost use Rattle.log_audit.specs.Refused.{IsUntabled};
-ghost use Rattle.audit_run.specs.Judged.{AsGiven, IsUnjudged, Judges, TakesRead, given_in, logs_in, may_go_on};
+ghost use Rattle.log_audit.specs.Refused.{IsRefused, IsUntabled};
+ghost use Rattle.audit_run.specs.Judged.{AsGiven, Judges, TakesRead, given_for, logs_in, may_go_on};
 
 use crate::completing::{Judged, completed};
 use audit_words::Judging;
-use log_audit::{AuditFault, Audited, Form, GivenLog, calls_table, read_alone, read_audited};
-use log_turning::LogBehind;
+use log_audit::{AuditFault, Audited, Form, GivenLog, calls_table, opened, read_audited};
 use std::alloc::{AllocError, Global};
 
 /// The settings, a TOML document, and logs, as their files were read.
@@ -19,7 +18,7 @@ pub struct Files {
     /// The settings.
     pub text: Vec<u8>,
     /// The logs, in order.
-    pub logs: Vec<LogBehind>,
+    pub logs: Vec<GivenLog>,
 }
 
 /// Whether logs may go on after closed ones that do not stand beside them: those that are judged one by one. Price changes are those
@@ -40,20 +39,28 @@ pub fn may_go_on(by: Judging) -> bool
 /// switches that kept none, where all are judged together.
 ///
 /// # Errors
-/// Those of `read_alone` where logs may go on, else those of `read_audited`.
+/// Those of `read_audited`.
 pub fn judged_logs(alloc: Global, files: Files, by: Judging) -> Result<Judged, AuditFault>
     // What is judged is what the text spells and the logs are; and it is told of which switches logs were made.
     ensures given { IfOk result (λ judged. Judges by files.text.items files.logs.items judged) }
     // The cause is true, and those before it do not stand.
-    ensures refused { IfErr result (λ why. IsUnjudged by files.text.items files.logs.items why) }
+    ensures refused { IfErr result (λ why. IsRefused files.text.items (given_for by files.logs.items) why) }
 {
     let Files { text, logs } = files;
-    if may_go_on(by) {
-        let read = read_alone(alloc, text, given_logs(alloc, logs)?)?;
-        return Ok(as_given(alloc, read));
-    }
-    let read = read_audited(alloc, text, whole_logs(alloc, logs)?)?;
+    let given = given_for(alloc, by, logs)?;
+    let read = read_audited(alloc, text, given)?;
     take_read(alloc, read, by.alone)
+}
+
+/// The logs as they are read: where they may not go on after others, each begins with the opening of its node.
+fn given_for(alloc: Global, by: Judging, logs: Vec<GivenLog>) -> Result<Vec<GivenLog>, AllocError>
+    ensures { IfOk result (λ given. given_of given.items ≡ given_for by logs.items) }
+{
+    if may_go_on(by) {
+        Ok(logs)
+    } else {
+        opened(alloc, whole_logs(alloc, logs)?)
+    }
 }
 
 /// The records of whole logs as CSV; nothing is judged.
@@ -71,7 +78,7 @@ pub fn calls_of(alloc: Global, files: Files) -> Result<Vec<u8>, AuditFault>
     calls_table(alloc, text.as_slice(), whole)
 }
 
-/// Takes whole logs that were read: one by one as they are, together with those that are made.
+/// Takes logs that were read: one by one as they are, together with those that are made.
 fn take_read(alloc: Global, read: Audited, alone: bool) -> Result<Judged, AuditFault>
     ensures takes { IfOk result (λ judged. TakesRead alone read judged) }
     ensures memory { IfErr result (λ why. why ≡ OutOfMemory) }
@@ -93,34 +100,14 @@ fn as_given(alloc: Global, audited: Audited) -> Judged
     }
 }
 
-/// A log that goes on after no other.
-pub fn whole(log: Vec<u8>) -> LogBehind
-    ensures log { result.log ≡ log }
-    ensures rest { result.rest ≡ None }
-{
-    LogBehind { rest: None, log }
-}
-
-/// Logs without what they begin with.
-fn whole_logs(alloc: Global, logs: Vec<LogBehind>) -> Result<Vec<Vec<u8>>, AllocError>
+/// The bytes of logs, without what they begin with.
+fn whole_logs(alloc: Global, logs: Vec<GivenLog>) -> Result<Vec<Vec<u8>>, AllocError>
     ensures { IfOk result (λ whole. bytes_of whole.items ≡ logs_in logs.items) }
 {
     let mut whole = Vec::new(alloc);
     for log in logs {
-        let LogBehind { rest: _, log } = log;
+        let GivenLog { rest: _, log } = log;
         whole.push(log)?;
     }
     Ok(whole)
-}
-
-/// Logs as they are handed in, with what they begin with.
-fn given_logs(alloc: Global, logs: Vec<LogBehind>) -> Result<Vec<GivenLog>, AllocError>
-    ensures { IfOk result (λ given. given_of given.items ≡ given_in logs.items) }
-{
-    let mut given = Vec::new(alloc);
-    for log in logs {
-        let LogBehind { rest, log } = log;
-        given.push(GivenLog { rest, log })?;
-    }
-    Ok(given)
 }

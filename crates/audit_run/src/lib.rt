@@ -8,6 +8,6 @@ mod no_verdict;
 mod putting;
 
 pub use completing::{Judged, completed};
-pub use judged::{Files, calls_of, judged_logs, may_go_on, whole};
+pub use judged::{Files, calls_of, judged_logs, may_go_on};
 pub use no_verdict::{NoVerdict, answered};
 pub use putting::{put_verdict, why_nothing};

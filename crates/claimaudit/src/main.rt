@@ -8,14 +8,13 @@ mod words;
 use crate::finding::Finding;
 use crate::words::{Words, words_of};
 use audit_run::{
-    Files, Judged, NoVerdict, answered, calls_of, judged_logs, may_go_on, put_verdict, whole,
-    why_nothing,
+    Files, Judged, NoVerdict, answered, calls_of, judged_logs, may_go_on, put_verdict, why_nothing,
 };
 use audit_words::{Asked, Judging};
 use claim_reports::{Report, Told, report_on};
 use command_line::{End, given_words, read_file, read_settings_file};
-use log_audit::{Outgoing, WriterSink};
-use log_turning::{log_behind, whole_log};
+use log_audit::{GivenLog, Outgoing, WriterSink};
+use log_turning::{OneLog, Reach, read_logs};
 use std::io::Write;
 use std::process::ExitCode;
 use world_settings::living_settings_fault;
@@ -69,7 +68,7 @@ fn reported(rt: &HostRuntime, words: &Words<'_>, report: Report) -> Result<Told,
 
 /// Reads the files, and tells of the records of each log; nothing is judged.
 fn tell_calls(rt: &HostRuntime, words: &Words<'_>) -> Result<bool, Unjudged> {
-    let told = calls_of(rt.alloc(), read_files(rt, words, false)?);
+    let told = calls_of(rt.alloc(), read_files(rt, words, Reach::All)?);
     let text = answered(rt.alloc(), words.logs.as_slice(), told).map_err(unjudged)?;
     put_told(rt, Told { text, good: true })
 }
@@ -78,7 +77,12 @@ fn tell_calls(rt: &HostRuntime, words: &Words<'_>) -> Result<bool, Unjudged> {
 /// why there is no table.
 fn judge(rt: &HostRuntime, words: &Words<'_>, judging: Judging) -> Result<bool, Unjudged> {
     let (alloc, names) = (rt.alloc(), words.logs.as_slice());
-    let files = read_files(rt, words, may_go_on(judging))?;
+    let reach = if may_go_on(judging) {
+        Reach::There
+    } else {
+        Reach::All
+    };
+    let files = read_files(rt, words, reach)?;
     let read = judged_logs(alloc, files, judging);
     let Judged { audited, made } = answered(alloc, names, read).map_err(unjudged)?;
     for number in &made {
@@ -96,18 +100,15 @@ fn judge(rt: &HostRuntime, words: &Words<'_>, judging: Judging) -> Result<bool, 
     Ok(good)
 }
 
-/// The settings, and the logs of the nodes in order, each with the closed ones before it; where they may go on after some, as far
-/// back as these stand beside it.
-fn read_files(rt: &HostRuntime, words: &Words<'_>, go_on: bool) -> Result<Files, Unjudged> {
+/// The settings, and the logs of the nodes in order, each with the closed ones before it, as far back as is said.
+fn read_files(rt: &HostRuntime, words: &Words<'_>, reach: Reach) -> Result<Files, Unjudged> {
     let text = read_settings_file(rt, words.settings)?;
     let mut logs = Vec::new(rt.alloc());
     for name in &words.logs {
-        let log = if go_on {
-            log_behind(rt, text.as_slice(), name)
-        } else {
-            whole_log(rt, text.as_slice(), name).map(|log| whole(log))
-        };
-        logs.push(log.map_err(|fault| unjudged(NoVerdict::from(fault)))?)?;
+        let OneLog { rest, log } = read_logs(rt, text.as_slice(), name, reach).map_err(
+            |fault| unjudged(NoVerdict::from(fault)),
+        )?;
+        logs.push(GivenLog { rest, log })?;
     }
     Ok(Files { text, logs })
 }

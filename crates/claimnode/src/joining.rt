@@ -3,7 +3,7 @@
 use crate::finding::Finding;
 use crate::words::Words;
 use log_folder::{OutFile, WriteFault, write_new};
-use log_turning::{join_files, log_files};
+use log_turning::{Reach, join_files, log_files};
 
 /// Writes all calls of a node to a new file as one log: those of its log, and of each that was closed before it.
 ///
@@ -16,8 +16,8 @@ pub(crate) fn join(
     text: &[u8],
     out: &str,
 ) -> Result<(), Finding> {
-    let files = log_files(rt, log)?;
-    let joined = join_files(rt.alloc(), text, words.node, files.as_slice())?;
+    let files = log_files(rt, log, Reach::All)?;
+    let joined = join_files(rt.alloc(), text, words.node, None, files.as_slice())?;
     match write_new(&mut OutFile::new(rt, out), joined.as_slice()) {
         Ok(()) => {
             let count = files.len();

@@ -4,7 +4,7 @@ ghost use Rattle.std.specs.Prelude.{◌≡◌, [], false, IfOk, string_bytes};
 ghost use Rattle.growing_logs.specs.Noting.{found_in, name_in};
 
 use crate::logs::Logs;
-use log_turning::{WholeFault, whole_log};
+use log_turning::{OneLog, Reach, WholeFault, read_logs};
 use node_process::Noted;
 use std::alloc::{AllocError, Global};
 
@@ -42,13 +42,18 @@ impl<'a> Reader<'a> {
 
     /// The log at a place under the old settings, and where its logs do not go on so, under the new ones.
     fn whole(&self, place: usize) -> Result<Vec<u8>, WholeFault> {
-        let name = name_at(self.names, place);
-        match whole_log(self.rt, self.old, name) {
+        let read = match self.read_under(self.old, place) {
             Err(WholeFault::Logs(_, _) | WholeFault::Rest(_, _)) => {
-                whole_log(self.rt, self.new, name)
+                self.read_under(self.new, place)
             }
             read => read,
-        }
+        };
+        Ok(read?.log)
+    }
+
+    /// All logs of the node whose log has the name at a place, as one, under the settings that a text spells.
+    fn read_under(&self, text: &[u8], place: usize) -> Result<OneLog, WholeFault> {
+        read_logs(self.rt, text, name_at(self.names, place), Reach::All)
     }
 }
 

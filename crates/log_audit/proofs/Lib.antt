@@ -16,7 +16,6 @@ pub mod Writing
 pub mod Commas
 pub mod Taking
 pub mod Passing
-pub mod ReadingAlike
 pub mod LoneNodes
 mod Lookups
 mod LastReason

@@ -10,7 +10,11 @@ use Rattle.kept_logs.specs.declared.logs.ReadLog.{ReadLog}
 use Rattle.claim_model.specs.Logs.{NodeLog}
 use Rattle.node_log.specs.LogSeen.{log_seen, logs_seen}
 use Rattle.node_log.specs.declared.log.NodeLog.{NodeLog as Kept}
-use Rattle.log_audit.specs.Given.{IsLog, AreLogs, Given, ReadsOne, bytes_of, given_of, given_seen, left_behind, rests_seen}
+use Rattle.std.proofs.Math.Path.{fun_ext}
+use Rattle.settings_digest.specs.Digests.{AreOf}
+use Rattle.settings_digest.specs.declared.digests.Digests.{Digests}
+use Rattle.settings_digest.proofs.Keeping.{turned_at}
+use Rattle.log_audit.specs.Given.{IsLog, AreLogs, Given, ReadsOne, bytes_of, digest_of, given_of, given_seen, left_behind, rests_seen, turned_given}
 use Rattle.log_audit.specs.declared.reading.GivenLog as value
 
 are_more : {A : Type 0} (read : A → Result Reading LogFault) (given : List A) (logs : List NodeLog) (one : A) (log : NodeLog) → AreLogs read given logs → IsLog (read one) log → AreLogs read (given ++ one ∷ []) (logs ++ log ∷ [])
@@ -52,6 +56,10 @@ reads_one read size found old new torn ends t reads left logs_are torn_are = rec
   logs_are = ap logs_seen logs_are ∙ map-append log_seen old (found.log ∷ []);
   torn_are = torn_are ∙ ap (λ (n : ℕ). torn ++ n ∷ []) (left ∙ sym (ap (left_behind size) reads));
 }
+
+-- by digests of settings, and by the text that spells these, a log has the same digest
+pub given_is : (text : List ℕ) (digests : Digests) → AreOf text digests → turned_given digests ≡ digest_of text
+given_is text digests are = fun_ext (λ (g : Given). turned_at text g.rest digests g.log are)
 
 -- what one log more begins with
 pub rests_on : (xs : List value.GivenLog) (x : value.GivenLog) (old new : List (Option (Vec ℕ))) → new ≡ old ++ x.rest ∷ [] → rests_seen old ≡ map (λ (g : Given). g.rest) (given_of xs)

@@ -1,11 +1,11 @@
 -- The settings and the logs that bytes are, before anything is judged.
-use Rattle.std.specs.Prelude.{◌≡◌, ℕ, ◌-◌, List, [], ◌∷◌, ◌++◌, length, map, Option, Some, Result, Ok, Err, ⊤, option_map}
+use Rattle.std.specs.Prelude.{◌≡◌, ℕ, ◌-◌, List, [], ◌∷◌, ◌++◌, length, map, Option, Some, None, Result, Ok, Err, ⊤, option_map}
 use Rattle.std.specs.Global.{Vec}
 use Rattle.claim_model.specs.Logs.{NodeLog}
 use Rattle.world_setup.specs.declared.settings.WorldSettings.{WorldSettings}
 use Rattle.world_settings.specs.Document.{document_seen, living_in}
 use Rattle.kept_logs.specs.Logs.{Reading, log_in}
-use Rattle.settings_digest.specs.Digests.{digest_under, turned, turned_under}
+use Rattle.settings_digest.specs.Digests.{turned, turned_under}
 use Rattle.settings_digest.specs.declared.digests.Digests.{Digests}
 use Rattle.kept_logs.specs.declared.fault.LogFault.{LogFault}
 use Rattle.log_audit.specs.declared.reading.GivenLog as value
@@ -30,25 +30,10 @@ AreLogs read [] (log ∷ logs) = ⊥
 AreLogs read (one ∷ more) [] = ⊥
 AreLogs read (one ∷ more) (log ∷ logs) = IsLog (read one) log × AreLogs read more logs
 
--- the settings are those that a text spells, and the logs are those that bytes are under its digests
-pub record IsRead (text : List ℕ) (bytes : List (List ℕ)) (settings : WorldSettings) (logs : List NodeLog) : Type 0 where
-  pub spelled : living_in text ≡ Some (document_seen settings)
-  pub read : AreLogs (read_by (digest_under text)) bytes logs
-
 -- how many bytes stand after the records of a log that stand whole
 abbrev pub left_behind : ℕ → Result Reading LogFault → ℕ
 left_behind size (Ok read) = size - read.whole
 left_behind size (Err fault) = 0
-
--- how many bytes the torn end of a log has under settings of the digest that such bytes have
-abbrev pub torn_end : (List ℕ → List ℕ) → List ℕ → ℕ
-torn_end digest bytes = left_behind (length bytes) (read_by digest bytes)
-
--- how many bytes the torn end of each log has
-abbrev pub torn_ends : (List ℕ → List ℕ) → List (List ℕ) → List ℕ
-torn_ends digest logs = map (torn_end digest) logs
-
--- ---- logs that may go on after closed ones
 
 -- a log, and what it begins with, where it goes on after closed ones
 pub record Given : Type 0 where
@@ -64,19 +49,27 @@ rests_seen rests = map (λ (rest : Option (Vec ℕ)). option_map (λ (v : Vec �
 abbrev pub given_of : List value.GivenLog → List Given
 given_of logs = map given_seen logs
 
--- how such a log reads under settings that a text spells
-abbrev pub read_behind : List ℕ → Given → Result Reading LogFault
-read_behind text g = log_in (turned_under text g.rest g.log) g.log
+-- logs that begin with the opening of their nodes
+abbrev pub opened : List (List ℕ) → List Given
+opened logs = map (λ (log : List ℕ). record { rest = None; log = log }) logs
 
-abbrev pub torn_behind : List ℕ → Given → ℕ
-torn_behind text g = left_behind (length g.log) (read_behind text g)
+-- under which digest a log reads, of settings that a text spells
+abbrev pub digest_of : List ℕ → Given → List ℕ
+digest_of text g = turned_under text g.rest g.log
+
+-- how a log reads under its digest, and how many bytes its torn end has
+abbrev pub read_given : (Given → List ℕ) → Given → Result Reading LogFault
+read_given digest g = log_in (digest g) g.log
+
+abbrev pub torn_given : (Given → List ℕ) → Given → ℕ
+torn_given digest g = left_behind (length g.log) (read_given digest g)
 
 -- the settings are those that a text spells, and the logs are those that are given, each with what it begins with and its torn end
-pub record IsReadAlone (text : List ℕ) (given : List Given) (settings : WorldSettings) (logs : List NodeLog) (rests : List (Option (List ℕ))) (torn : List ℕ) : Type 0 where
+pub record IsRead (text : List ℕ) (given : List Given) (settings : WorldSettings) (logs : List NodeLog) (rests : List (Option (List ℕ))) (torn : List ℕ) : Type 0 where
   pub spelled : living_in text ≡ Some (document_seen settings)
-  pub read : AreLogs (read_behind text) given logs
+  pub read : AreLogs (read_given (digest_of text)) given logs
   pub begin : rests ≡ map (λ (g : Given). g.rest) given
-  pub ends : torn ≡ map (torn_behind text) given
+  pub ends : torn ≡ map (torn_given (digest_of text)) given
 
 -- ---- on the way
 
@@ -87,9 +80,6 @@ pub record ReadsOne (read : Result Reading LogFault) (size : ℕ) (logs : List N
   pub logs_are : after ≡ logs ++ log ∷ []
   pub torn_are : ends ≡ torn ++ left_behind size read ∷ []
 
--- the same of a log as it is read by digests
-abbrev pub read_turned : Digests → Given → Result Reading LogFault
-read_turned digests g = log_in (turned digests g.rest g.log) g.log
-
-abbrev pub torn_turned : Digests → Given → ℕ
-torn_turned digests g = left_behind (length g.log) (read_turned digests g)
+-- the digest of a log, by those of the settings
+abbrev pub turned_given : Digests → Given → List ℕ
+turned_given digests g = turned digests g.rest g.log

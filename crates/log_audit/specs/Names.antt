@@ -8,8 +8,6 @@ use Rattle.kept_logs.specs.Logs.{KeptReading, kept_in}
 use Rattle.kept_logs.specs.References.{Reference}
 use Rattle.kept_logs.specs.Rests.{references_before}
 use Rattle.kept_logs.specs.declared.fault.LogFault.{LogFault}
-use Rattle.settings_digest.specs.Digests.{digest_under, turned_under, turned, under}
-use Rattle.settings_digest.specs.declared.digests.Digests.{Digests}
 use Rattle.log_audit.specs.Given.{Given}
 use Rattle.log_audit.specs.declared.fault.AuditFault.{AuditFault}
 use Rattle.log_audit.specs.declared.fault.AuditFault.TheVariants as audit
@@ -81,25 +79,14 @@ abbrev pub first_log : {A : Type 0} → (A → Option Misnamed) → ℕ → List
 first_log found place [] = None
 first_log found place (one ∷ more) = or_later place (found one) (first_log found (place + 1) more)
 
--- of bytes that are a log under a digest, which begins with the opening of its node
-abbrev pub misnamed_by : (List ℕ → List ℕ) → List ℕ → Option Misnamed
-misnamed_by digest bytes = misnamed_in None (kept_in (digest bytes) bytes)
+-- of a log as it reads under its digest
+abbrev pub misnamed_given : (Given → List ℕ) → Given → Option Misnamed
+misnamed_given digest g = misnamed_in g.rest (kept_in (digest g) g.log)
 
-abbrev pub misnamed_log : (List ℕ → List ℕ) → List (List ℕ) → Option MisnamedLog
-misnamed_log digest logs = first_log (misnamed_by digest) 0 logs
-
--- of a log that may go on after closed ones, under settings that a text spells
-abbrev pub misnamed_behind : List ℕ → Given → Option Misnamed
-misnamed_behind text g = misnamed_in g.rest (kept_in (turned_under text g.rest g.log) g.log)
-
-abbrev pub misnamed_given : List ℕ → List Given → Option MisnamedLog
-misnamed_given text given = first_log (misnamed_behind text) 0 given
+abbrev pub misnamed_log : (Given → List ℕ) → List Given → Option MisnamedLog
+misnamed_log digest given = first_log (misnamed_given digest) 0 given
 
 -- ---- on the way
-
--- the same as it is read by digests
-abbrev pub misnamed_turned : Digests → Given → Option Misnamed
-misnamed_turned digests g = misnamed_in g.rest (kept_in (turned digests g.rest g.log) g.log)
 
 -- it is told that this log is the first
 abbrev pub IsMisnamed : Option MisnamedLog → AuditFault → Type 0

@@ -11,8 +11,8 @@ use Rattle.kept_logs.specs.declared.fault.LogFault.{LogFault}
 use Rattle.kept_logs.specs.declared.fault.LogFault.TheVariants as log_fault
 use Rattle.log_audit.specs.declared.fault.AuditFault.{AuditFault}
 use Rattle.log_audit.specs.declared.fault.AuditFault.TheVariants.{OutOfMemory, Settings, World, Log, Reference, NoLine}
-use Rattle.log_audit.specs.Given.{AreLogs, Given, read_behind, read_by}
-use Rattle.log_audit.specs.Names.{misnamed_given, misnamed_log}
+use Rattle.log_audit.specs.Given.{AreLogs, Given, digest_of, read_by, read_given}
+use Rattle.log_audit.specs.Names.{misnamed_log}
 use Rattle.log_audit.specs.declared.referring.MisnamedLog.{MisnamedLog}
 
 -- a text spells settings that no world takes, for this cause
@@ -56,15 +56,11 @@ IsUnread text read given wrong (Log place fault) = (wrong ≡ None) × RefusesLo
 IsUnread text read given wrong (Reference place call fault) = RefusesReference text wrong (record { place = place; call = call; fault = fault })
 IsUnread text read given wrong NoLine = ⊥
 
--- of bytes, each of which is to be a log that begins with the opening of its node
-abbrev pub IsRefused : List ℕ → List (List ℕ) → AuditFault → Type 0
-IsRefused text bytes why = IsUnread text (read_by (digest_under text)) bytes (misnamed_log (digest_under text) bytes) why
-
 -- of logs, each with what it begins with
-abbrev pub IsRefusedAlone : List ℕ → List Given → AuditFault → Type 0
-IsRefusedAlone text given why = IsUnread text (read_behind text) given (misnamed_given text given) why
+abbrev pub IsRefused : List ℕ → List Given → AuditFault → Type 0
+IsRefused text given why = IsUnread text (read_given (digest_of text)) given (misnamed_log (digest_of text) given) why
 
--- where no reference is judged
+-- of bytes, each of which is to be a log that begins with the opening of its node, where no reference is judged
 abbrev pub IsUntabled : List ℕ → List (List ℕ) → AuditFault → Type 0
 IsUntabled text bytes why = IsUnread text (read_by (digest_under text)) bytes None why
 

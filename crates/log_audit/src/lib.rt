@@ -38,7 +38,7 @@ pub use judging::{Verdict, judge};
 pub use lone_report::put_alone;
 pub use noted::Noted;
 pub use outgoing::{Outgoing, TextSink};
-pub use reading::{Audited, GivenLog, read_alone, read_audited};
+pub use reading::{Audited, GivenLog, opened, read_audited};
 pub use reasons::{last_reason_is_last, some_reason_is_told};
 pub use report::{Form, Report, put_report, report_on};
 pub use tables::laws::rows_have_their_columns;

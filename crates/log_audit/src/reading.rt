@@ -7,13 +7,12 @@ ghost use Rattle.world_settings.specs.Document.{document_seen, living_in};
 ghost use Rattle.node_log.specs.LogSeen.{logs_seen};
 ghost use Rattle.kept_logs.specs.Logs.{log_in};
 ghost use Rattle.kept_logs.specs.LogSeen.{reading_seen};
-ghost use Rattle.settings_digest.specs.Digests.{digest_under, under};
-ghost use Rattle.log_audit.specs.Given.{AreLogs, Given, IsRead, IsReadAlone, ReadsOne, bytes_of, given_of, read_by, read_turned, rests_seen, torn_ends, torn_turned};
-ghost use Rattle.log_audit.specs.Names.{misnamed_given, misnamed_log};
-ghost use Rattle.log_audit.specs.Refused.{AreNoLogs, IsNoLog, IsRefused, IsRefusedAlone, SpellsNone, TakesNone};
+ghost use Rattle.log_audit.specs.Given.{AreLogs, Given, IsRead, ReadsOne, bytes_of, digest_of, given_of, opened, read_given, rests_seen, torn_given, turned_given};
+ghost use Rattle.log_audit.specs.Names.{misnamed_log};
+ghost use Rattle.log_audit.specs.Refused.{AreNoLogs, IsNoLog, IsRefused, SpellsNone, TakesNone};
 
 use crate::fault::AuditFault;
-use crate::referring::{check_given, check_logs};
+use crate::referring::check_references;
 use kept_logs::{LogFault, ReadLog, SettingsDigest, read_log};
 use node_log::NodeLog;
 use settings_digest::Digests;
@@ -30,42 +29,6 @@ pub struct Audited {
     pub(crate) logs: Vec<NodeLog>,
     pub(crate) torn: Vec<usize>,
     pub(crate) rests: Vec<Option<Vec<u8>>>,
-}
-
-/// Reads the settings, a TOML document, and each of the logs, which have the digest of its text or of what it says.
-/// The bytes of a log are let go once it is read.
-///
-/// # Errors
-/// The first that stands: `Settings`, `World`, `Reference` for the first log that has a reference which no node keeps, `Log` for
-/// the first log that is none under these settings. `OutOfMemory` may stand in place of any answer.
-pub fn read_audited(alloc: Global, text: Vec<u8>, logs: Vec<Vec<u8>>) -> Result<Audited, AuditFault>
-    // What is judged is what the text spells and the bytes are.
-    ensures given { IfOk result (λ audited.
-        IsRead text.items (bytes_of logs.items) audited.settings (logs_seen audited.logs.items)) }
-    // A world takes the settings.
-    ensures taken { IfOk result (λ audited. world_fault audited.settings ≡ None) }
-    // The cause is true, and those before it do not stand.
-    ensures refused { IfErr result (λ why. IsRefused text.items (bytes_of logs.items) why) }
-    // Nothing but submissions has references, of at most 64 bytes, and no two have the same one.
-    ensures named { OnOk result (misnamed_log (digest_under text.items) (bytes_of logs.items) ≡ None) }
-    // The torn ends are what stands after the records that stand whole.
-    ensures torn { IfOk result (λ audited. audited.torn.items ≡ torn_ends (digest_under text.items) (bytes_of logs.items)) }
-    // A schedule begins with the very text.
-    ensures text { IfOk result (λ audited. audited.text.items ≡ text.items) }
-    // No log goes on after closed ones.
-    ensures whole { IfOk result (λ audited. audited.rests.items ≡ []) }
-{
-    let settings = checked(alloc, settings_of(alloc, text.as_slice())?)?;
-    let digests = Digests::of(alloc, settings.settings(), text.as_slice())?;
-    check_logs(alloc, &digests, logs.as_slice())?;
-    let ReadLogs { logs, torn } = read_logs(alloc, &digests, logs)?;
-    Ok(Audited {
-        text,
-        settings,
-        logs,
-        torn,
-        rests: Vec::new(alloc),
-    })
 }
 
 impl Audited {
@@ -122,27 +85,46 @@ pub struct GivenLog {
     pub log: Vec<u8>,
 }
 
-/// Reads the settings, a TOML document, and logs of which each may go on after closed ones that are not read.
-/// The bytes of a log are let go once it is read.
+/// Logs that begin with the opening of their nodes.
 ///
 /// # Errors
-/// Those of `read_audited`.
-pub fn read_alone(alloc: Global, text: Vec<u8>, logs: Vec<GivenLog>) -> Result<Audited, AuditFault>
-    // What is judged is what the text spells and the logs are.
-    ensures given { IfOk result (λ a. IsReadAlone text.items (given_of logs.items) a.settings
+/// Memory was refused.
+pub fn opened(alloc: Global, logs: Vec<Vec<u8>>) -> Result<Vec<GivenLog>, AllocError>
+    ensures { IfOk result (λ given. given_of given.items ≡ opened (bytes_of logs.items)) }
+{
+    let mut given = Vec::new(alloc);
+    for log in logs {
+        given.push(GivenLog { rest: None, log })?;
+    }
+    Ok(given)
+}
+
+/// Reads the settings, a TOML document, and each of the logs, which have the digest of its text or of what it says, and of what
+/// they begin with. The bytes of a log are let go once it is read.
+///
+/// # Errors
+/// The first that stands: `Settings`, `World`, `Reference` for the first log that has a reference which no node keeps, `Log` for
+/// the first log that is none under these settings. `OutOfMemory` may stand in place of any answer.
+pub fn read_audited(
+    alloc: Global,
+    text: Vec<u8>,
+    logs: Vec<GivenLog>,
+) -> Result<Audited, AuditFault>
+    // What is judged is what the text spells and the logs are; their torn ends are what stands after the records that stand whole.
+    ensures given { IfOk result (λ a. IsRead text.items (given_of logs.items) a.settings
         (logs_seen a.logs.items) (rests_seen a.rests.items) a.torn.items) }
     // A world takes the settings.
     ensures taken { IfOk result (λ a. world_fault a.settings ≡ None) }
-    // References are as above, with those before the log.
-    ensures named { OnOk result (misnamed_given text.items (given_of logs.items) ≡ None) }
+    // Nothing but submissions has references, of at most 64 bytes, and no two have the same one, those before a log among them.
+    ensures named { OnOk result (misnamed_log (digest_of text.items) (given_of logs.items) ≡ None) }
     // The cause is true, and those before it do not stand.
-    ensures refused { IfErr result (λ why. IsRefusedAlone text.items (given_of logs.items) why) }
-    // The text is kept.
+    ensures refused { IfErr result (λ why. IsRefused text.items (given_of logs.items) why) }
+    // A schedule begins with the very text.
     ensures text { IfOk result (λ a. a.text.items ≡ text.items) }
 {
     let settings = checked(alloc, settings_of(alloc, text.as_slice())?)?;
     let digests = Digests::of(alloc, settings.settings(), text.as_slice())?;
-    check_given(alloc, &digests, logs.as_slice())?;
+    check_references(alloc, &digests, logs.as_slice())?;
     let (read, rests) = read_each(alloc, &digests, logs)?;
     let ReadLogs { logs, torn } = read;
     Ok(Audited {
@@ -201,31 +183,17 @@ impl ReadLogs {
     }
 }
 
-/// Reads each of the logs, in order.
-fn read_logs(alloc: Global, digests: &Digests, logs: Vec<Vec<u8>>) -> Result<ReadLogs, AuditFault>
-    ensures logs { IfOk result (λ read.
-        AreLogs (read_by (under digests.now)) (bytes_of logs.items) (logs_seen read.logs.items)) }
-    ensures torn { IfOk result (λ read. read.torn.items ≡ torn_ends (under digests.now) (bytes_of logs.items)) }
-    ensures refused { IfErr result (λ why. AreNoLogs (read_by (under digests.now)) (bytes_of logs.items) why) }
-{
-    let mut read = ReadLogs::new(alloc);
-    for bytes in logs {
-        let bytes = bytes.as_slice();
-        read.read_next(alloc, &digests.under(bytes), bytes)?;
-    }
-    Ok(read)
-}
-
 /// Reads each of the logs, in order; and what each begins with.
 fn read_each(
     alloc: Global,
     digests: &Digests,
     logs: Vec<GivenLog>,
 ) -> Result<(ReadLogs, Vec<Option<Vec<u8>>>), AuditFault>
-    ensures logs { IfOk result (λ r. AreLogs (read_turned digests.now) (given_of logs.items) (logs_seen r.0.logs.items)) }
-    ensures torn { IfOk result (λ r. r.0.torn.items ≡ map (torn_turned digests.now) (given_of logs.items)) }
+    ensures logs { IfOk result (λ r.
+        AreLogs (read_given (turned_given digests.now)) (given_of logs.items) (logs_seen r.0.logs.items)) }
+    ensures torn { IfOk result (λ r. r.0.torn.items ≡ map (torn_given (turned_given digests.now)) (given_of logs.items)) }
     ensures rests { IfOk result (λ r. rests_seen r.1.items ≡ map (λ (g : Given). g.rest) (given_of logs.items)) }
-    ensures refused { IfErr result (λ why. AreNoLogs (read_turned digests.now) (given_of logs.items) why) }
+    ensures refused { IfErr result (λ why. AreNoLogs (read_given (turned_given digests.now)) (given_of logs.items) why) }
 {
     let mut read = ReadLogs::new(alloc);
     let mut rests = Vec::new(alloc);

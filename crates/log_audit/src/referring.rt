@@ -6,9 +6,8 @@ ghost use Rattle.std.specs.BTreeSet.{keys};
 ghost use Rattle.world_setup.specs.Seen.{call_seen};
 ghost use Rattle.kept_logs.specs.Logs.{kept_in};
 ghost use Rattle.kept_logs.specs.Rests.{references_before};
-ghost use Rattle.settings_digest.specs.Digests.{under};
-ghost use Rattle.log_audit.specs.Given.{bytes_of, given_of};
-ghost use Rattle.log_audit.specs.Names.{IsMisnamed, fault_of, first_log, first_misnamed, is_submission, misnamed_by, misnamed_in, misnamed_log, misnamed_turned, uses_before, uses_from};
+ghost use Rattle.log_audit.specs.Given.{given_of, turned_given};
+ghost use Rattle.log_audit.specs.Names.{IsMisnamed, fault_of, first_misnamed, is_submission, misnamed_in, misnamed_log, uses_before, uses_from};
 ghost use Rattle.log_audit.specs.NamesSeen.{Finds, first_sorted, known_in, noted_in};
 
 use crate::fault::{AuditFault, ReferenceFault};
@@ -38,29 +37,17 @@ pub(crate) struct MisnamedLog {
     pub(crate) fault: ReferenceFault,
 }
 
-/// Refuses logs, each of which begins with the opening of its node, where a reference is wrong in one.
-pub(crate) fn check_logs(
-    alloc: Global,
-    digests: &Digests,
-    logs: &[Vec<u8>],
-) -> Result<(), AuditFault>
-    ensures kept { OnOk result (misnamed_log (under digests.now) (bytes_of logs.now) ≡ None) }
-    ensures refused { IfErr result (λ why. IsMisnamed (misnamed_log (under digests.now) (bytes_of logs.now)) why) }
-{
-    unless_misnamed(misnamed_among(alloc, digests, logs)?)
-}
-
-/// The same of logs that may go on after closed ones.
-pub(crate) fn check_given(
+/// Refuses logs where a reference is wrong in one.
+pub(crate) fn check_references(
     alloc: Global,
     digests: &Digests,
     logs: &[GivenLog],
 ) -> Result<(), AuditFault>
-    ensures kept { OnOk result (first_log (misnamed_turned digests.now) 0 (given_of logs.now) ≡ None) }
+    ensures kept { OnOk result (misnamed_log (turned_given digests.now) (given_of logs.now) ≡ None) }
     ensures refused { IfErr result (λ why.
-        IsMisnamed (first_log (misnamed_turned digests.now) 0 (given_of logs.now)) why) }
+        IsMisnamed (misnamed_log (turned_given digests.now) (given_of logs.now)) why) }
 {
-    unless_misnamed(misnamed_given(alloc, digests, logs)?)
+    unless_misnamed(misnamed_among(alloc, digests, logs)?)
 }
 
 /// Refuses what was found.
@@ -82,26 +69,9 @@ fn unless_misnamed(found: Option<MisnamedLog>) -> Result<(), AuditFault>
 fn misnamed_among(
     alloc: Global,
     digests: &Digests,
-    logs: &[Vec<u8>],
-) -> Result<Option<MisnamedLog>, AllocError>
-    ensures { IfOk result (λ found. found ≡ first_log (misnamed_by (under digests.now)) 0 (bytes_of logs.now)) }
-{
-    for (place, bytes) in logs.iter().enumerate() {
-        let bytes = bytes.as_slice();
-        if let Some(it) = misnamed_in(alloc, None, &digests.under(bytes), bytes)? {
-            return Ok(Some(at_place(place, it)));
-        }
-    }
-    Ok(None)
-}
-
-/// The same of logs that may go on after closed ones.
-fn misnamed_given(
-    alloc: Global,
-    digests: &Digests,
     logs: &[GivenLog],
 ) -> Result<Option<MisnamedLog>, AllocError>
-    ensures { IfOk result (λ found. found ≡ first_log (misnamed_turned digests.now) 0 (given_of logs.now)) }
+    ensures { IfOk result (λ found. found ≡ misnamed_log (turned_given digests.now) (given_of logs.now)) }
 {
     for (place, given) in logs.iter().enumerate() {
         let rest = bytes_in(&given.rest);

@@ -12,7 +12,9 @@ use Rattle.log_turning.specs.Unjoined.{IsUnjoined}
 use Rattle.log_turning.specs.declared.fault.JoinFault.TheVariants as join_fault
 use Rattle.log_turning.specs.declared.fault.RestFault.TheVariants as rest_fault
 use Rattle.log_turning.specs.declared.whole.LogFile.{LogFile}
-use Rattle.log_turning.specs.declared.whole.LogBehind.{LogBehind}
+use Rattle.log_turning.specs.declared.whole.OneLog.{OneLog}
+use Rattle.log_turning.specs.declared.whole.Reach.{Reach}
+use Rattle.log_turning.specs.declared.whole.Reach.TheVariants.{All, There}
 use Rattle.log_turning.specs.declared.whole.WholeFault.{WholeFault}
 use Rattle.log_turning.specs.declared.whole.WholeFault.TheVariants.{OutOfMemory, File, Logs, Rest as OtherRest}
 
@@ -53,21 +55,23 @@ IsUnwhole text node begins parts (File name error) = ⊥
 IsUnwhole text node begins parts (Logs name fault) = (fault ≢ join_fault.OutOfMemory) × IsUnjoined text node begins parts fault
 IsUnwhole text node begins parts (OtherRest name fault) = (fault ≢ rest_fault.OutOfMemory) × IsUnleft text node parts fault
 
--- all calls of a node: those of its only log, or of all that go on one after another, from its opening on
-abbrev pub IsAll : List ℕ → List (List ℕ) → List ℕ → Type 0
-IsAll text files log = MatchOption (owner_in files) (log ≡ first_in files) (λ node. IsWhole text node None (parts_in files) log)
+-- a log in a file, which is the first of those that are read: where that is the first of all, it begins with the opening of its node
+abbrev pub part_for : Reach → List ℕ → Part
+part_for All file = record { rest = None; log = file }
+part_for There file = part_in file
 
-abbrev pub IsNotAll : List ℕ → List (List ℕ) → WholeFault → Type 0
-IsNotAll text files why = MatchOption (owner_in files) (why ≡ OutOfMemory) (λ node. IsUnwhole text node None (parts_in files) why)
+abbrev pub first_part : Reach → List (List ℕ) → Part
+first_part reach files = part_for reach (first_in files)
 
 -- the node of several logs
-abbrev pub owner_behind : List (List ℕ) → Option Node
-owner_behind files = cond (nat_lt 1 (length files)) (owner_in files) None
+abbrev pub owner_for : Reach → List (List ℕ) → Option Node
+owner_for All files = owner_in files
+owner_for There files = cond (nat_lt 1 (length files)) (owner_in files) None
 
--- as far back as there are files: what the first log begins with, and the logs as one
-pub record IsBehind (text : List ℕ) (files : List (List ℕ)) (behind : LogBehind) : Type 0 where
-  pub rest : option_map (λ (v : Vec ℕ). v.items) behind.rest ≡ (part_in (first_in files)).rest
-  pub log : MatchOption (owner_behind files) (behind.log.items ≡ (part_in (first_in files)).log) (λ node. IsWhole text node (part_in (first_in files)).rest (parts_in files) behind.log.items)
+-- as far back as they are read: what the first log begins with, and the logs as one, which is the only one, or all that go on one after another
+pub record IsOne (text : List ℕ) (reach : Reach) (files : List (List ℕ)) (one : OneLog) : Type 0 where
+  pub rest : option_map (λ (v : Vec ℕ). v.items) one.rest ≡ (first_part reach files).rest
+  pub log : MatchOption (owner_for reach files) (one.log.items ≡ (first_part reach files).log) (λ node. IsWhole text node (first_part reach files).rest (parts_in files) one.log.items)
 
-abbrev pub IsNotBehind : List ℕ → List (List ℕ) → WholeFault → Type 0
-IsNotBehind text files why = MatchOption (owner_behind files) (why ≡ OutOfMemory) (λ node. IsUnwhole text node (part_in (first_in files)).rest (parts_in files) why)
+abbrev pub IsNotOne : List ℕ → Reach → List (List ℕ) → WholeFault → Type 0
+IsNotOne text reach files why = MatchOption (owner_for reach files) (why ≡ OutOfMemory) (λ node. IsUnwhole text node (first_part reach files).rest (parts_in files) why)

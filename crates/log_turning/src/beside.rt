@@ -2,8 +2,8 @@
 
 use crate::fault::JoinFault;
 use crate::files::part_of;
-use crate::whole::{LogBehind, LogFile, WholeFault, behind_of, put, whole_of};
-use kept_logs::{Rest, read_rest};
+use crate::whole::{LogFile, OneLog, Reach, WholeFault, one_log, put};
+use kept_logs::read_rest;
 use std::alloc::{AllocError, Global};
 use std::io::ErrorKind;
 use std::{fs, io};
@@ -16,46 +16,28 @@ pub fn closed_name(alloc: Global, path: &str, calls: u64) -> Result<String, Allo
     format!(in alloc; "{path}.{calls}")
 }
 
-/// The log in a file, where it begins with the opening of its node; else all calls of the node as one log, under the settings that
-/// the text spells.
+/// Reads the log in a file and those that were closed before it, which stand beside it, as far back as is said, as one log, under the
+/// settings that the text spells.
 ///
 /// # Errors
 /// A file could not be read, or the logs do not go on one after another, or with what their node left.
-pub fn whole_log(rt: &HostRuntime, text: &[u8], path: &str) -> Result<Vec<u8>, WholeFault> {
-    let files = log_files(rt, path)?;
-    whole_of(rt.alloc(), text, files)
+pub fn read_logs(
+    rt: &HostRuntime,
+    text: &[u8],
+    path: &str,
+    reach: Reach,
+) -> Result<OneLog, WholeFault> {
+    let files = log_files(rt, path, reach)?;
+    one_log(rt.alloc(), text, files, reach)
 }
 
-/// The log in a file, and those that were closed before it as far back as they stand beside it, as one log, under the settings
-/// that the text spells; and what the first of them begins with.
+/// The files of a node's logs, the newest first, so far back: each but the last begins with what the one after it was closed with. Each
+/// was closed with fewer calls than the next one, so that a log which names itself, or a newer one, as the one before it is refused,
+/// and not read again.
 ///
 /// # Errors
-/// A file could not be read, or the logs do not go on one after another, or with what their node left.
-pub fn log_behind(rt: &HostRuntime, text: &[u8], path: &str) -> Result<LogBehind, WholeFault> {
-    let files = files_back(rt, path, Reach::There)?;
-    behind_of(rt.alloc(), text, files.as_slice())
-}
-
-/// The files of a node's logs, the newest first: each but the last begins with what the one after it was closed with.
-///
-/// # Errors
-/// A file could not be read.
-pub fn log_files(rt: &HostRuntime, path: &str) -> Result<Vec<LogFile>, WholeFault> {
-    files_back(rt, path, Reach::All)
-}
-
-/// How far back the logs of a node are read.
-#[derive(Clone, Copy, PartialEq, Eq)]
-enum Reach {
-    /// To the first.
-    All,
-    /// As far as their files are there.
-    There,
-}
-
-/// The files of a node's logs, the newest first, so far back. Each was closed with fewer calls than the next one, so that a log
-/// which names itself, or a newer one, as the one before it is refused, and not read again.
-fn files_back(rt: &HostRuntime, path: &str, reach: Reach) -> Result<Vec<LogFile>, WholeFault> {
+/// A file could not be read, or names no earlier one.
+pub fn log_files(rt: &HostRuntime, path: &str, reach: Reach) -> Result<Vec<LogFile>, WholeFault> {
     let alloc = rt.alloc();
     let mut files = Vec::new(alloc);
     let mut wanted = Some(format!(in alloc; "{path}")?);
@@ -82,8 +64,11 @@ fn files_back(rt: &HostRuntime, path: &str, reach: Reach) -> Result<Vec<LogFile>
 
 /// How many calls were made before the log in a file, where it goes on after closed ones.
 fn calls_in(alloc: Global, bytes: &[u8]) -> Result<Option<u64>, AllocError> {
-    match rest_of(alloc, bytes)? {
-        Some(rest) => Ok(Some(rest.calls)),
+    let Some(rest) = part_of(bytes).rest else {
+        return Ok(None);
+    };
+    match read_rest(alloc, rest)? {
+        Some(read) => Ok(Some(read.calls)),
         None => Ok(None),
     }
 }
@@ -96,21 +81,13 @@ fn file_before(
     reach: Reach,
 ) -> Result<Option<String>, WholeFault> {
     let name = closed_name(rt.alloc(), path, calls)?;
-    if reach == Reach::All {
+    if matches!(reach, Reach::All) {
         return Ok(Some(name));
     }
     match fs::exists(rt, name.as_str()) {
         Ok(true) => Ok(Some(name)),
         Ok(false) => Ok(None),
         Err(error) => Err(WholeFault::File(name, error)),
-    }
-}
-
-/// What the log in a file begins with, where it goes on after closed ones.
-fn rest_of(alloc: Global, bytes: &[u8]) -> Result<Option<Rest<'_>>, AllocError> {
-    match part_of(bytes).rest {
-        Some(rest) => read_rest(alloc, rest),
-        None => Ok(None),
     }
 }
 

@@ -11,11 +11,11 @@ mod leaving;
 mod turning;
 mod whole;
 
-pub use beside::{check_regular, closed_name, log_behind, log_files, whole_log};
+pub use beside::{check_regular, closed_name, log_files, read_logs};
 pub use fault::{JoinFault, RestFault, TurnFault};
 pub use files::{BEFORE_REST, part_of, rest_size, write_file};
 pub use joining::{Part, join_logs};
 pub use laws::{files_have_their_parts, turned_logs_go_on};
 pub use leaving::check_rests;
 pub use turning::{Turned, turn_log};
-pub use whole::{LogBehind, LogFile, WholeFault, behind_of, join_files, whole_of};
+pub use whole::{LogFile, OneLog, Reach, WholeFault, join_files, one_log};

@@ -4,12 +4,11 @@ ghost use Rattle.std.specs.Prelude.{◌≡◌, ◌↔◌, ◌++◌, ◌∷◌, [
 ghost use Rattle.std.specs.Option.{option_copied, option_map};
 ghost use Rattle.claim_model.specs.Node as model;
 ghost use Rattle.world_setup.specs.Seen.{node_seen};
-ghost use Rattle.log_turning.specs.Files.{part_in};
 ghost use Rattle.log_turning.specs.Joined as parted;
 ghost use Rattle.log_turning.specs.Joined.{part_seen};
 ghost use Rattle.log_turning.specs.Left.{IsUnleft};
 ghost use Rattle.log_turning.specs.Unjoined.{IsUnjoined};
-ghost use Rattle.log_turning.specs.Whole.{IsAll, IsBehind, IsNotAll, IsNotBehind, IsUnwhole, IsWhole, bytes_in, first_in, owner_behind, owner_in, owner_of, parts_in};
+ghost use Rattle.log_turning.specs.Whole.{IsNotOne, IsOne, IsUnwhole, IsWhole, bytes_in, first_in, first_part, owner_for, owner_in, owner_of, part_for, parts_in};
 ghost use Rattle.log_turning.specs.declared.fault.JoinFault.TheVariants as JoinFault;
 
 use crate::fault::{JoinFault, RestFault};
@@ -54,91 +53,103 @@ impl From<AllocError> for WholeFault {
     }
 }
 
-/// All calls of a node whose logs these files have, the newest first: its only log, or all as one.
-///
-/// # Errors
-/// `Logs` with the first that is refused, or `Rest`.
-pub fn whole_of(alloc: Global, text: &[u8], files: Vec<LogFile>) -> Result<Vec<u8>, WholeFault>
-    ensures all { IfOk result (λ log. IsAll text.now (bytes_in files.items) log.items) }
-    ensures refused { IfErr result (λ why. IsNotAll text.now (bytes_in files.items) why) }
-{
-    match node_of(alloc, files.as_slice()) {
-        Ok(Some(node)) => join_files(alloc, text, node, files.as_slice()),
-        Ok(None) => Ok(first_bytes(alloc, files)),
-        Err(_) => Err(WholeFault::OutOfMemory),
-    }
+/// How far back the logs of a node are read.
+#[derive(Clone, Copy)]
+pub enum Reach {
+    /// To the first, which begins with the opening of the node.
+    All,
+    /// As far as their files are there: the first of them may go on after closed ones.
+    There,
 }
 
-/// A log, and what it begins with, where it goes on after closed ones.
+/// The logs of a node as one, and what it begins with, where it goes on after closed ones.
 #[derive(Drop)]
-pub struct LogBehind {
+pub struct OneLog {
     /// What it begins with.
     pub rest: Option<Vec<u8>>,
     /// The log.
     pub log: Vec<u8>,
 }
 
-/// The logs that these files have, the newest first, as one; and what the first of them begins with.
+/// The logs that these files have, the newest first, as one: all that go on one after another, of the node that the newest names,
+/// or the only one. Where they are to reach the first of all, the first of these begins with no rest.
 ///
 /// # Errors
-/// Those of `whole_of`.
-pub fn behind_of(alloc: Global, text: &[u8], files: &[LogFile]) -> Result<LogBehind, WholeFault>
-    ensures behind { IfOk result (λ behind. IsBehind text.now (bytes_in files.now) behind) }
-    ensures refused { IfErr result (λ why. IsNotBehind text.now (bytes_in files.now) why) }
+/// `Logs` with the first that is refused, or `Rest`.
+pub fn one_log(
+    alloc: Global,
+    text: &[u8],
+    files: Vec<LogFile>,
+    reach: Reach,
+) -> Result<OneLog, WholeFault>
+    ensures one { IfOk result (λ one. IsOne text.now reach (bytes_in files.items) one) }
+    ensures refused { IfErr result (λ why. IsNotOne text.now reach (bytes_in files.items) why) }
 {
-    match node_behind(alloc, files) {
-        Ok(Some(node)) => several_behind(alloc, text, node, files),
-        Ok(None) => match one_behind(alloc, first_part(files)) {
-            Ok(behind) => Ok(behind),
+    match owner_for(alloc, files.as_slice(), reach) {
+        Ok(Some(node)) => several_as_one(alloc, text, node, files.as_slice(), reach),
+        Ok(None) => match only_log(alloc, files, reach) {
+            Ok(one) => Ok(one),
             Err(_) => Err(WholeFault::OutOfMemory),
         },
         Err(_) => Err(WholeFault::OutOfMemory),
     }
 }
 
-/// The node of several logs.
-fn node_behind(alloc: Global, files: &[LogFile]) -> Result<Option<Node>, AllocError>
-    ensures { IfOk result (λ node. option_map node_seen node ≡ owner_behind (bytes_in files.now)) }
+/// The node of several logs: the first of these files names it, where the log in it goes on after closed ones.
+fn owner_for(alloc: Global, files: &[LogFile], reach: Reach) -> Result<Option<Node>, AllocError>
+    ensures { IfOk result (λ node. option_map node_seen node ≡ owner_for reach (bytes_in files.now)) }
 {
-    if files.len() > 1 {
-        node_of(alloc, files)
-    } else {
-        Ok(None)
+    match reach {
+        Reach::All => owner_in(alloc, files),
+        Reach::There => {
+            if files.len() > 1 {
+                owner_in(alloc, files)
+            } else {
+                Ok(None)
+            }
+        }
     }
 }
 
 /// Several logs of a node as one, and what the first begins with.
-fn several_behind(
+fn several_as_one(
     alloc: Global,
     text: &[u8],
     node: Node,
     files: &[LogFile],
-) -> Result<LogBehind, WholeFault>
-    ensures rest { IfOk result (λ behind. option_map (λ v. v.items) behind.rest
-        ≡ (part_in (first_in (bytes_in files.now))).rest) }
-    ensures log { IfOk result (λ behind. IsWhole text.now (node_seen node) (part_in (first_in (bytes_in files.now))).rest
-        (parts_in (bytes_in files.now)) behind.log.items) }
-    ensures refused { IfErr result (λ why. IsUnwhole text.now (node_seen node) (part_in (first_in (bytes_in files.now))).rest
-        (parts_in (bytes_in files.now)) why) }
+    reach: Reach,
+) -> Result<OneLog, WholeFault>
+    ensures rest { IfOk result (λ one. option_map (λ v. v.items) one.rest ≡ (first_part reach (bytes_in files.now)).rest) }
+    ensures log { IfOk result (λ one. IsWhole text.now (node_seen node) (first_part reach (bytes_in files.now)).rest
+        (parts_in (bytes_in files.now)) one.log.items) }
+    ensures refused { IfErr result (λ why. IsUnwhole text.now (node_seen node)
+        (first_part reach (bytes_in files.now)).rest (parts_in (bytes_in files.now)) why) }
 {
-    let begins = first_part(files).rest;
-    match join_behind(alloc, text, node, begins, files) {
+    let begins = first_part(files, reach).rest;
+    match join_files(alloc, text, node, begins, files) {
         Ok(log) => match copy_of(alloc, begins) {
-            Ok(rest) => Ok(LogBehind { rest, log }),
+            Ok(rest) => Ok(OneLog { rest, log }),
             Err(_) => Err(WholeFault::OutOfMemory),
         },
         Err(fault) => Err(fault),
     }
 }
 
-/// A log by itself, and what it begins with.
-fn one_behind(alloc: Global, part: Part<'_>) -> Result<LogBehind, AllocError>
-    ensures rest { IfOk result (λ behind. option_map (λ v. v.items) behind.rest ≡ (part_seen part.entry).rest) }
-    ensures log { IfOk result (λ behind. behind.log.items ≡ (part_seen part.entry).log) }
+/// The log of the last of these files, which are taken, and what it begins with.
+fn only_log(alloc: Global, files: Vec<LogFile>, reach: Reach) -> Result<OneLog, AllocError>
+    ensures rest { IfOk result (λ one. option_map (λ v. v.items) one.rest ≡ (first_part reach (bytes_in files.items)).rest) }
+    ensures log { IfOk result (λ one. one.log.items ≡ (first_part reach (bytes_in files.items)).log) }
 {
-    let rest = copy_of(alloc, part.rest)?;
-    let log = Vec::from_slice(alloc, part.log)?;
-    Ok(LogBehind { rest, log })
+    let log = first_bytes(alloc, files);
+    match reach {
+        Reach::All => Ok(OneLog { rest: None, log }),
+        Reach::There => {
+            let part = part_of(log.as_slice());
+            let rest = copy_of(alloc, part.rest)?;
+            let log = Vec::from_slice(alloc, part.log)?;
+            Ok(OneLog { rest, log })
+        }
+    }
 }
 
 /// A copy of what a log begins with.
@@ -151,27 +162,11 @@ fn copy_of(alloc: Global, rest: Option<&[u8]>) -> Result<Option<Vec<u8>>, AllocE
     }
 }
 
-/// The logs of a node in these files, the newest first, as one log.
+/// The logs of a node in these files, the newest first, as one log, of which the first begins so.
 ///
 /// # Errors
 /// `Logs` with the first that is refused, or `Rest`.
 pub fn join_files(
-    alloc: Global,
-    text: &[u8],
-    node: Node,
-    files: &[LogFile],
-) -> Result<Vec<u8>, WholeFault>
-    ensures whole { IfOk result (λ joined.
-        IsWhole text.now (node_seen node) None (parts_in (bytes_in files.now)) joined.items) }
-    // The cause is true.
-    ensures refused { IfErr result (λ why.
-        IsUnwhole text.now (node_seen node) None (parts_in (bytes_in files.now)) why) }
-{
-    join_behind(alloc, text, node, None, files)
-}
-
-/// The same, where the first of them begins so.
-fn join_behind(
     alloc: Global,
     text: &[u8],
     node: Node,
@@ -180,6 +175,7 @@ fn join_behind(
 ) -> Result<Vec<u8>, WholeFault>
     ensures whole { IfOk result (λ joined.
         IsWhole text.now (node_seen node) (option_copied begins.entry) (parts_in (bytes_in files.now)) joined.items) }
+    // The cause is true.
     ensures refused { IfErr result (λ why.
         IsUnwhole text.now (node_seen node) (option_copied begins.entry) (parts_in (bytes_in files.now)) why) }
 {
@@ -260,17 +256,30 @@ fn parts_of<'a>(alloc: Global, files: &'a [LogFile]) -> Result<Vec<Part<'a>>, Al
 }
 
 /// The first log, in the last of these files.
-fn first_part(files: &[LogFile]) -> Part<'_>
-    ensures { part_seen result ≡ part_in (first_in (bytes_in files.now)) }
+fn first_part(files: &[LogFile], reach: Reach) -> Part<'_>
+    ensures { part_seen result ≡ first_part reach (bytes_in files.now) }
 {
     match files {
-        [.., file] => part_of(file.bytes.as_slice()),
-        [] => part_of(b""),
+        [.., file] => part_for(file.bytes.as_slice(), reach),
+        [] => part_for(b"", reach),
+    }
+}
+
+/// The first log in a file; it begins with the opening of its node, where the logs are to reach that.
+fn part_for(bytes: &[u8], reach: Reach) -> Part<'_>
+    ensures { part_seen result ≡ part_for reach bytes.now }
+{
+    match reach {
+        Reach::All => Part {
+            rest: None,
+            log: bytes,
+        },
+        Reach::There => part_of(bytes),
     }
 }
 
 /// The node that the first of these files names, where the log in it goes on after closed ones.
-fn node_of(alloc: Global, files: &[LogFile]) -> Result<Option<Node>, AllocError>
+fn owner_in(alloc: Global, files: &[LogFile]) -> Result<Option<Node>, AllocError>
     ensures { IfOk result (λ node. option_map node_seen node ≡ owner_in (bytes_in files.now)) }
 {
     match files {

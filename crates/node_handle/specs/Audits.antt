@@ -7,9 +7,8 @@ use Rattle.message_words.specs.declared.page.Style.TheVariants.{Lines, Json}
 use Rattle.node_log.specs.LogSeen.{logs_seen}
 use Rattle.world_setup.specs.declared.world_fault.WorldFault.{WorldFault}
 use Rattle.world_settings.specs.Document.{living_in}
-use Rattle.settings_digest.specs.Digests.{digest_under}
 use Rattle.log_audit.specs.Judged.{IsTold}
-use Rattle.log_audit.specs.Given.{IsRead, torn_ends}
+use Rattle.log_audit.specs.Given.{IsRead, digest_of, opened, rests_seen}
 use Rattle.log_audit.specs.Names.{misnamed_log}
 use Rattle.log_audit.specs.Refused.{SpellsNoWorld, IsRefused}
 use Rattle.log_audit.specs.Telling.{IsWritten}
@@ -47,9 +46,8 @@ form_of Json = form.Json
 -- pieces of bytes are logs under the settings that a text spells, of one legal run or of none; and it is told of them what claimaudit tells in this form
 pub record IsReported (text : List ℕ) (pieces : List (List ℕ)) (style : Style) (told : List ℕ) (legal : Bool) : Type 0 where
   pub audited : Audited
-  pub read : IsRead text pieces audited.settings (logs_seen audited.logs.items)
-  pub ends : audited.torn.items ≡ torn_ends (digest_under text) pieces
-  pub named : misnamed_log (digest_under text) pieces ≡ None
+  pub read : IsRead text (opened pieces) audited.settings (logs_seen audited.logs.items) (rests_seen audited.rests.items) audited.torn.items
+  pub named : misnamed_log (digest_of text) (opened pieces) ≡ None
   pub is : IsTold audited.settings (logs_seen audited.logs.items) legal
   pub written : IsWritten audited (form_of style) legal told
 
@@ -73,14 +71,14 @@ HasNoSettings text = (living_in text ≡ None) ⊎ ((why : WorldFault) × Spells
 pub record HasNoLog (text : List ℕ) (pieces : List (List ℕ)) (why : Refusal) (place : ℕ) : Type 0 where
   pub fault : LogFault
   pub is : why ≡ refusal_of_log fault
-  pub first : IsRefused text pieces (Log place fault)
+  pub first : IsRefused text (opened pieces) (Log place fault)
 
 -- the same of the first piece with a reference that no node keeps
 pub record HasBadReference (text : List ℕ) (pieces : List (List ℕ)) (why : Refusal) (place : ℕ) : Type 0 where
   pub call : ℕ
   pub fault : ReferenceFault
   pub is : why ≡ BadRecord
-  pub first : IsRefused text pieces (Reference place call fault)
+  pub first : IsRefused text (opened pieces) (Reference place call fault)
 
 -- pieces of bytes are not judged: memory is refused, then the settings, then the first piece with such a reference, then the first that is no log
 abbrev pub RefusesRead : List ℕ → List (List ℕ) → Refusal → ℕ → ℕ → Type 0

@@ -1,9 +1,8 @@
 //! Whether logs are those of one legal run, as claimaudit tells it.
 
 ghost use Rattle.std.specs.Prelude.{◌≡◌, ℕ, List, None, true, false, IfOk, IfErr, OnOk};
-ghost use Rattle.settings_digest.specs.Digests.{digest_under};
 ghost use Rattle.node_log.specs.LogSeen.{logs_seen};
-ghost use Rattle.log_audit.specs.Given.{IsRead, torn_ends};
+ghost use Rattle.log_audit.specs.Given.{IsRead, digest_of, opened, rests_seen};
 ghost use Rattle.log_audit.specs.Names.{misnamed_log};
 ghost use Rattle.log_audit.specs.Telling.{IsWritten};
 ghost use Rattle.log_audit.specs.Refused.{IsRefused};
@@ -14,7 +13,7 @@ ghost use Rattle.node_handle.specs.Audits.{Audits, bytes_of, form_of, IsJudged, 
 use crate::cutting::pieces_of;
 use crate::reading::copy_out;
 use crate::refusal::{Refusal, refusal_of_log};
-use log_audit::{AuditFault, Audited, Form, Report, read_audited, report_on};
+use log_audit::{AuditFault, Audited, Form, Report, opened, read_audited, report_on};
 use message_words::Style;
 use std::alloc::Global;
 
@@ -117,15 +116,14 @@ fn reported(alloc: Global, style: Style, audited: Audited) -> Result<Report, Ref
 
 /// The settings and the logs that bytes are.
 fn audited(alloc: Global, settings: &[u8], logs: Vec<Vec<u8>>) -> Result<Audited, AuditFault>
-    ensures read { IfOk result (λ a. IsRead settings.now (bytes_of logs.items) a.settings (logs_seen a.logs.items)) }
-    ensures torn { IfOk result (λ a. a.torn.items ≡ torn_ends (digest_under settings.now) (bytes_of logs.items)) }
-    ensures named { OnOk result (misnamed_log (digest_under settings.now) (bytes_of logs.items) ≡ None) }
-    ensures refused { IfErr result (λ why. IsRefused settings.now (bytes_of logs.items) why) }
+    ensures read { IfOk result (λ a. IsRead settings.now (opened (bytes_of logs.items)) a.settings
+        (logs_seen a.logs.items) (rests_seen a.rests.items) a.torn.items) }
+    ensures named { OnOk result (misnamed_log (digest_of settings.now) (opened (bytes_of logs.items)) ≡ None) }
+    ensures refused { IfErr result (λ why. IsRefused settings.now (opened (bytes_of logs.items)) why) }
 {
-    match Vec::from_slice(alloc, settings) {
-        Ok(text) => read_audited(alloc, text, logs),
-        Err(_) => Err(AuditFault::OutOfMemory),
-    }
+    let text = Vec::from_slice(alloc, settings)?;
+    let given = opened(alloc, logs)?;
+    read_audited(alloc, text, given)
 }
 
 /// The form in which logs are told of.
@@ -141,7 +139,7 @@ fn form_of(style: Style) -> Form
 /// The refusal of a fault, with the place of the log that it is about.
 fn told(fault: AuditFault, place: &mut usize) -> Refusal
     ensures { (text : List ℕ) (pieces : List (List ℕ))
-        → IsRefused text pieces fault → RefusesRead text pieces result place.old place.new }
+        → IsRefused text (opened pieces) fault → RefusesRead text pieces result place.old place.new }
 {
     match fault {
         AuditFault::OutOfMemory => Refusal::OutOfMemory,
