@@ -59,6 +59,19 @@ def random_world(seed, events):
     return (HEAD + "\n".join(lines) + "\n").encode()
 
 
+def with_terms(text, seed):
+    """An input between whose events the terms of payer 1 change, to what they are too; some changes are refused."""
+    dice = random.Random(seed)
+    head, lines = text.split(b"---\n")
+    made, terms = [], (150, 1000)
+    for line in lines.splitlines():
+        if dice.random() < 0.2:
+            terms = dice.choice([terms, (dice.randrange(300), dice.randrange(2000)), (100000000, 0)])
+            made.append(b"terms pr1 %d %d" % terms)
+        made.append(line)
+    return head + b"---\n" + b"\n".join(made) + b"\n"
+
+
 def quoted_world():
     """A run whose control number and cardholder have commas, quotation marks and backslashes in them."""
     text = claim("234567893", 1001, 0).replace("A1        ", 'A,"1\\\\"    ', 1).replace("987654321", '9,"\\\\,"')

@@ -254,53 +254,60 @@ def calls(folder, logs):
     os.remove(other)
 
 
-PRICE_COLUMNS = ("product", "price_before_ten_thousandths", "price_after_ten_thousandths")
+# The tables of changes of plans: the kinds of calls of which they tell, and their columns behind the payer and the place.
+CHANGES = {
+    "prices": ((5, 6), ("product", "price_before_ten_thousandths", "price_after_ten_thousandths")),
+    "terms": ((9,), ("fee_before_cents", "copay_before_cents", "fee_after_cents", "copay_after_cents")),
+}
 
 
-def prices(folder, logs, schedule):
-    """The price changes of a run are those of its schedule, each with the price before it; those of one log are the same by its calls."""
+def changes_wanted(schedule):
+    """The rows of each table of changes, by what a schedule says of plans: payer, event, and the other columns."""
     spelled, lines = re.split("(?m)^---\n", schedule, maxsplit=1)
-    now = {
-        (str(payer), product): str(price)
-        for payer, of in enumerate(tomllib.loads(spelled)["payer"], 1)
-        for product, price in of.get("prices", {}).items()
-    }
-    wanted = []
+    payers = dict(enumerate(tomllib.loads(spelled)["payer"], 1))
+    prices = {(str(n), it): str(price) for n, of in payers.items() for it, price in of.get("prices", {}).items()}
+    terms = {str(n): (str(of["fee"]), str(of["copay"])) for n, of in payers.items()}
+    wanted = {name: [] for name in CHANGES}
     for event, words in enumerate((line.split(" ") for line in lines.split("\n")), 1):
+        payer = words[1][2:] if words[0] in ("plan", "terms") else ""
         if words[0] == "plan":
-            payer, product = words[1][2:], unprinted(words[2]).decode("latin-1")
+            product = unprinted(words[2]).decode("latin-1")
             after = "" if words[3] == "none" else words[3]
-            wanted.append(
-                {
-                    "payer": payer,
-                    "event": str(event),
-                    "product": printed(product.encode("latin-1")),
-                    PRICE_COLUMNS[1]: now.get((payer, product), ""),
-                    PRICE_COLUMNS[2]: after,
-                }
-            )
-            now[payer, product] = after
-    code, out, err = audit(folder, logs, "--csv", "prices")
-    read = rows_in(out)
-    expect("prices", (code, err) == (0, "") and read == wanted, f"{folder}: {read} in place of {wanted}")
-    expect("prices", out.split("\n")[0] == ",".join(("payer", "event", *PRICE_COLUMNS)), f"{folder}: {out}")
-    for log in logs:
-        name = os.path.basename(log)
-        data = open(log, "rb").read()
-        places = [i for i, (begin, _) in enumerate(records(data), 1) if data[begin + 16] in (5, 6)]
-        mine = [it for it in wanted if name == f'pr{it["payer"]}.log']
-        own = [
-            {"payer": it["payer"], "call": str(place), **{k: it[k] for k in PRICE_COLUMNS}}
-            for it, place in zip(mine, places, strict=True)
-        ]
-        code, out, err = audit(folder, [log], "--alone", "--csv", "prices")
-        expect("prices", (code, err) == (0, "") and rows_in(out) == own, f"{log}: {out} in place of {own}")
+            before = prices.get((payer, product), "")
+            wanted["prices"].append((payer, str(event), printed(product.encode("latin-1")), before, after))
+            prices[payer, product] = after
+        elif words[0] == "terms":
+            after = words[2], words[3]
+            wanted["terms"].append((payer, str(event), *terms[payer], *after))
+            terms[payer] = after
+    return wanted
+
+
+def changes(folder, logs, schedule):
+    """The changes of plans of a run are those of its schedule, each with what was before it; those of one log are the same by its calls."""
+    for table, wanted in changes_wanted(schedule).items():
+        kinds, columns = CHANGES[table]
+        code, out, err = audit(folder, logs, "--csv", table)
+        told = [tuple(it.values()) for it in rows_in(out)]
+        expect(table, (code, err) == (0, "") and told == wanted, f"{folder}: {told} in place of {wanted}")
+        expect(table, out.split("\n")[0] == ",".join(("payer", "event", *columns)), f"{folder}: {out}")
+        for log in logs:
+            name = os.path.basename(log)
+            with open(log, "rb") as file:
+                data = file.read()
+            places = [i for i, (begin, _) in enumerate(records(data), 1) if data[begin + 16] in kinds]
+            mine = [it for it in wanted if name == f"pr{it[0]}.log"]
+            own = [(it[0], str(place), *it[2:]) for it, place in zip(mine, places, strict=True)]
+            code, out, err = audit(folder, [log], "--alone", "--csv", table)
+            told = [tuple(it.values()) for it in rows_in(out)]
+            expect(table, (code, err) == (0, "") and told == own, f"{log}: {out} in place of {own}")
+            expect(table, out.split("\n")[0] == ",".join(("payer", "call", *columns)), f"{log}: {out}")
 
 
 def no_tables(folder, logs):
     """Logs of no legal run: no table, one line on standard error, and the reasons in JSON."""
     code, plain, _ = audit(folder, logs)
-    for name in (*TABLES, "prices"):
+    for name in (*TABLES, *CHANGES):
         answer = audit(folder, logs, "--csv", name)
         expect(
             "tables",

@@ -124,10 +124,10 @@ def heads(text: str) -> str:
         return "ok" if Dump(folder, given + b"---\n").read("pr1.log") == head_of("pr1", given) else "another digest"
 
 
-def csv_of(given: bytes, table: str) -> str:
+def csv_of(given: bytes, *words: str) -> str:
     """A table of a day, its lines parted by a bar."""
     with room() as folder:
-        return " | ".join(Logs(folder, given).audit("--csv", table).told().splitlines())
+        return " | ".join(Logs(folder, given).audit(*words).told().splitlines())
 
 
 def calls_of(given: bytes) -> str:
@@ -173,9 +173,9 @@ def tell(word: str, argument: bytes) -> str:
     if word == "drawn":
         shown, _, rest = text.partition(" / ")
         return drawn(day_of(rest), shown)
-    if word == "table":
+    if word in ("table", "alone"):
         table, _, rest = text.partition(" ")
-        return csv_of(day_of(rest), table)
+        return csv_of(day_of(rest), *(["--alone"] if word == "alone" else []), "--csv", table)
     return {"legal": legal, "calls": calls_of}[word](day_of(text))
 
 

@@ -4,7 +4,7 @@ use Rattle.node_log.specs.LogSeen.{logs_seen}
 use Rattle.log_audit.specs.Given.{Given, IsRead, given_of, opened, rests_seen}
 use Rattle.log_audit.specs.declared.reading.Audited.{Audited}
 use Rattle.log_audit.specs.declared.report.Form.{Form}
-use Rattle.log_audit.specs.declared.report.Form.TheVariants.{Lines, Json, Csv, Prices, Schedule}
+use Rattle.log_audit.specs.declared.report.Form.TheVariants.{Lines, Json, Csv, Changes, Schedule}
 use Rattle.log_audit.specs.declared.reading.GivenLog.{GivenLog}
 use Rattle.audit_words.specs.declared.asked.Judging.{Judging}
 use Rattle.audit_run.specs.declared.completing.Judged.{Judged}
@@ -14,9 +14,9 @@ use Rattle.audit_run.specs.Completing.{Completes}
 abbrev pub logs_in : List GivenLog → List (List ℕ)
 logs_in logs = map (λ (l : GivenLog). l.log.items) logs
 
--- price changes are those of all calls, and are told of whole logs
+-- changes of plans are those of all calls, and are told of whole logs
 abbrev pub is_of_whole_logs : Form → Bool
-is_of_whole_logs Prices = true
+is_of_whole_logs (Changes of) = true
 is_of_whole_logs Lines = false
 is_of_whole_logs Json = false
 is_of_whole_logs (Csv table) = false

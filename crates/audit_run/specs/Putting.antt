@@ -6,7 +6,7 @@ use Rattle.log_audit.specs.LoneTelling.{all_make, alone_text, lones_of}
 use Rattle.log_audit.specs.Telling.{IsWritten}
 use Rattle.log_audit.specs.declared.reading.Audited.{Audited}
 use Rattle.log_audit.specs.declared.report.Form.{Form}
-use Rattle.log_audit.specs.declared.report.Form.TheVariants.{Lines, Json, Csv, Prices, Schedule}
+use Rattle.log_audit.specs.declared.report.Form.TheVariants.{Lines, Json, Csv, Changes, Schedule}
 use Rattle.audit_words.specs.declared.asked.Judging.{Judging}
 
 -- good is, of logs one by one, that each node makes its log; of all together, that some events are a legal interleaving of them
@@ -28,7 +28,7 @@ IsPut j a good text = IsText j.alone j.form a good text
 -- a table is told of good logs alone
 abbrev pub is_table : Form → Bool
 is_table (Csv table) = true
-is_table Prices = true
+is_table (Changes of) = true
 is_table Lines = false
 is_table Json = false
 is_table Schedule = false

@@ -21,13 +21,13 @@ pub struct Files {
     pub logs: Vec<GivenLog>,
 }
 
-/// Whether logs may go on after closed ones that do not stand beside them: those that are judged one by one. Price changes are those
-/// of all calls.
+/// Whether logs may go on after closed ones that do not stand beside them: those that are judged one by one. Changes of plans are
+/// those of all calls.
 pub fn may_go_on(by: Judging) -> bool
     ensures { result ≡ may_go_on by }
 {
     match by.form {
-        Form::Prices => false,
+        Form::Changes(_) => false,
         Form::Lines => by.alone,
         Form::Json => by.alone,
         Form::Csv(_) => by.alone,

@@ -51,7 +51,7 @@ fn is_table(form: Form) -> bool
 {
     match form {
         Form::Csv(_) => true,
-        Form::Prices => true,
+        Form::Changes(_) => true,
         Form::Lines => false,
         Form::Json => false,
         Form::Schedule => false,

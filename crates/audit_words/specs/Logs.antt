@@ -2,8 +2,9 @@
 use Rattle.std.specs.Prelude.{ℕ, Bool, false, List, [], ◌∷◌, Option, Some, None, option_map, bytes_eq, codes, cond, find, if◌then◌else◌}
 use Rattle.clap.specs.Words.{first_value}
 use Rattle.clap.specs.declared.parser.matches.Found.{Found}
+use Rattle.log_audit.specs.declared.change_tables.Changes.TheVariants.{Prices, Terms}
 use Rattle.log_audit.specs.declared.report.Form.{Form}
-use Rattle.log_audit.specs.declared.report.Form.TheVariants.{Json, Csv, Prices, Schedule}
+use Rattle.log_audit.specs.declared.report.Form.TheVariants.{Json, Csv, Changes, Schedule}
 use Rattle.log_audit.specs.declared.tables.table.Table.{Table}
 use Rattle.log_audit.specs.declared.tables.table.Table.TheVariants.{Payments, Entries, Rows, Packets, Counted, Open}
 use Rattle.audit_words.specs.declared.asked.Asked.{Asked}
@@ -18,8 +19,8 @@ judged alone form = Verdict (record { alone = alone; form = form })
 -- the forms that are tables, by their names: those of both; of logs one by one the entries without an answer too, and of a run its packets
 abbrev pub forms : Bool → List (List ℕ × Form)
 forms alone =
-    (codes "prices", Prices) ∷ (codes "payments", Csv Payments) ∷ (codes "entries", Csv Entries) ∷ (codes "rows", Csv Rows) ∷ (codes "counted", Csv Counted)
-    ∷ cond alone (codes "open", Csv Open) (codes "packets", Csv Packets) ∷ []
+    (codes "prices", Changes Prices) ∷ (codes "terms", Changes Terms) ∷ (codes "payments", Csv Payments) ∷ (codes "entries", Csv Entries)
+    ∷ (codes "rows", Csv Rows) ∷ (codes "counted", Csv Counted) ∷ cond alone (codes "open", Csv Open) (codes "packets", Csv Packets) ∷ []
 
 -- what is asked by the name of one
 abbrev pub csv_named : Bool → List ℕ → Option Asked

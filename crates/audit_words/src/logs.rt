@@ -8,7 +8,7 @@ use crate::asked::{Asked, Judging};
 use crate::choosing::one_of;
 use crate::found::is_given;
 use clap::ArgMatches;
-use log_audit::{Form, Table};
+use log_audit::{Changes, Form, Table};
 
 /// In which way logs are told of, if a word asks for one. None at all where several are asked for.
 pub(crate) fn way_in(matches: &ArgMatches<'_>, alone: bool) -> Option<Option<Option<Asked>>>
@@ -79,7 +79,10 @@ fn csv_named(alone: bool, name: &[u8]) -> Option<Asked>
     ensures { result ≡ csv_named alone name.now }
 {
     if name == b"prices".as_slice() {
-        return Some(judged(alone, Form::Prices));
+        return Some(judged(alone, Form::Changes(Changes::Prices)));
+    }
+    if name == b"terms".as_slice() {
+        return Some(judged(alone, Form::Changes(Changes::Terms)));
     }
     let table = table_named(alone, name)?;
     Some(judged(alone, Form::Csv(table)))

@@ -55,8 +55,8 @@ const WORDS: &[Word] = &[
     Word {
         name: "csv",
         takes: Takes::Text("TABLE"),
-        help: "writes a table of what the run left as CSV: payments, entries, rows, packets, counted or prices; alone, payments, \
-entries, rows, open, counted or prices",
+        help: "writes a table of what the run left as CSV: payments, entries, rows, packets, counted, prices or terms; alone, \
+payments, entries, rows, open, counted, prices or terms",
     },
     Word {
         name: "json",

@@ -20,5 +20,6 @@ pub mod LoneNodes
 mod Lookups
 mod LastReason
 mod Pricing
+mod Changing
 mod Ends
 mod Calling

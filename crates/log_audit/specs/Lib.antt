@@ -31,7 +31,10 @@ pub mod AloneSeen
 pub mod Waits
 pub mod WaitsSeen
 pub mod Reasons
+pub mod Changes
 pub mod Prices
+pub mod Terms
+pub mod ChangeTables
 pub mod Telling
 pub mod LoneTelling
 pub mod TabledSeen

@@ -6,14 +6,14 @@ use Rattle.claim_model.specs.Nodes.{AnyNode}
 use Rattle.node_log.specs.LogSeen.{logs_seen}
 use Rattle.table_text.specs.Rows.{rows_text, list_text}
 use Rattle.table_text.specs.declared.layout.Style.TheVariants as style
-use Rattle.log_audit.specs.Prices.{log_prices}
+use Rattle.log_audit.specs.ChangeTables.{log_changes_csv}
 use Rattle.log_audit.specs.Lones.{Lone, lones_from, makes, before_rows, before_text, came_text, is_behind, lone_rows}
 use Rattle.log_audit.specs.Sentences.{told_lines}
 use Rattle.log_audit.specs.Tables.{table_csv, table_members}
 use Rattle.log_audit.specs.Telling.{log_line, logs_member, context_for}
 use Rattle.log_audit.specs.declared.reading.Audited.{Audited}
 use Rattle.log_audit.specs.declared.report.Form.{Form}
-use Rattle.log_audit.specs.declared.report.Form.TheVariants.{Lines, Json, Csv, Prices, Schedule}
+use Rattle.log_audit.specs.declared.report.Form.TheVariants.{Lines, Json, Csv, Changes, Schedule}
 use Rattle.log_audit.specs.declared.sentences.Manner.TheVariants.{Member}
 use Rattle.log_audit.specs.declared.tables.table.Table.TheVariants.{Open}
 
@@ -54,12 +54,12 @@ behind_member lones = cond (list_any is_behind lones) (behind_list lones) []
 unfoldable pub lone_object : Context → Bool → List Lone → List ℕ
 lone_object ctx made lones = codes ",\n\"alone\":true" ++ (behind_member lones ++ (codes ",\n\"made\":" ++ (verdict_members ctx made lones ++ codes "\n}\n")))
 
--- what is told of logs that come to this; a table, and price changes, only where each node makes its log. A schedule is of a run alone
+-- what is told of logs that come to this; a table, and changes of plans, only where each node makes its log. A schedule is of a run alone
 abbrev pub lones_text : Context → Audited → Bool → List Lone → Form → List ℕ
 lones_text ctx a made lones Lines = lone_lines ctx (length a.settings.pharmacies.items) lones
 lones_text ctx a made lones Json = logs_member (logs_seen a.logs.items) a.torn.items ++ lone_object ctx made lones
 lones_text ctx a made lones (Csv table) = cond made (table_csv (lone_rows ctx lones) table) []
-lones_text ctx a made lones Prices = cond made (log_prices a.settings (logs_seen a.logs.items)) []
+lones_text ctx a made lones (Changes of) = cond made (log_changes_csv a.settings of (logs_seen a.logs.items)) []
 lones_text ctx a made lones Schedule = lone_lines ctx (length a.settings.pharmacies.items) lones
 
 -- what each log comes to by itself

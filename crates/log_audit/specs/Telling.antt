@@ -26,13 +26,13 @@ use Rattle.log_audit.specs.Payments.{told_from}
 use Rattle.log_audit.specs.Ledger.{ledger_text}
 use Rattle.log_audit.specs.Tables.{table_members, table_rows}
 use Rattle.log_audit.specs.Tabled.{run_csv}
-use Rattle.log_audit.specs.Prices.{run_prices}
+use Rattle.log_audit.specs.ChangeTables.{run_changes_csv}
 use Rattle.log_audit.specs.Reasons.{IsReasons}
 use Rattle.log_audit.specs.declared.sentences.Manner.TheVariants.{Line, Member}
 use Rattle.table_text.specs.declared.layout.Style.TheVariants as style
 use Rattle.log_audit.specs.declared.reading.Audited.{Audited}
 use Rattle.log_audit.specs.declared.report.Form.{Form}
-use Rattle.log_audit.specs.declared.report.Form.TheVariants.{Lines, Json, Csv, Prices, Schedule}
+use Rattle.log_audit.specs.declared.report.Form.TheVariants.{Lines, Json, Csv, Changes, Schedule}
 use Rattle.log_audit.specs.declared.tables.table.Table.TheVariants.{Packets}
 
 -- the line of a log: its node, how many calls it has, and how many bytes its torn end has
@@ -122,7 +122,7 @@ abbrev pub IsTextOf : Audited → List Event → Form → List ℕ → Type 0
 IsTextOf a events Lines text = text ≡ run_lines a events
 IsTextOf a events Json text = text ≡ run_object a events
 IsTextOf a events (Csv table) text = text ≡ run_csv a.settings events table
-IsTextOf a events Prices text = text ≡ run_prices a.settings events
+IsTextOf a events (Changes of) text = text ≡ run_changes_csv a.settings of events
 IsTextOf a events Schedule text = IsSchedule a.text.items events text
 
 -- the lines of logs of no legal run: of each log, and why
@@ -142,7 +142,7 @@ abbrev pub IsUntold : Audited → Form → List ℕ → Type 0
 IsUntold a Lines text = IsNoRunLines a text
 IsUntold a Json text = IsNoRunObject a text
 IsUntold a (Csv table) text = text ≡ []
-IsUntold a Prices text = text ≡ []
+IsUntold a (Changes of) text = text ≡ []
 IsUntold a Schedule text = IsNoRunLines a text
 
 -- a text is told of some events that are a legal interleaving of the logs

@@ -5,6 +5,8 @@
 mod ages;
 mod alone;
 mod calls;
+mod change_tables;
+mod changes;
 mod fault;
 mod judging;
 mod ledger;
@@ -27,12 +29,14 @@ mod scheduling;
 mod sentences;
 mod standing;
 mod tables;
+mod terms;
 mod waiting;
 mod walking;
 mod writer_sink;
 mod wrongs;
 
 pub use calls::calls_table;
+pub use change_tables::Changes;
 pub use fault::{AuditFault, ReferenceFault};
 pub use judging::{Verdict, judge};
 pub use lone_report::put_alone;

@@ -6,20 +6,20 @@ ghost use Rattle.std.specs.Option.{option_copied};
 ghost use Rattle.bin_routes.specs.Table.{routes_of};
 ghost use Rattle.claim_model.specs.Bytes.{bytes_with};
 ghost use Rattle.node_log.specs.LogSeen.{log_seen, logs_seen};
+ghost use Rattle.log_audit.specs.ChangeTables.{log_changes_csv};
 ghost use Rattle.log_audit.specs.Lones.{lone_of, lone_rows, lones_from, makes, rest_at};
-ghost use Rattle.log_audit.specs.Prices.{log_prices};
 ghost use Rattle.log_audit.specs.AloneSeen.{lone_seen, lones_seen};
 ghost use Rattle.log_audit.specs.LoneTelling.{all_make, lone_lines, lones_of, lones_text, alone_text};
 ghost use Rattle.log_audit.specs.Outgoing.{Puts, TellsText};
 ghost use Rattle.log_audit.specs.Tables.{table_csv};
 
 use crate::alone::{Lone, lone_node};
+use crate::change_tables::{Changes, log_changes_csv};
 use crate::fault::AuditFault;
 use crate::lone_lines::lines_of;
 use crate::lone_object::put_object;
 use crate::object::torn_at;
 use crate::outgoing::{Outgoing, TextSink};
-use crate::prices::log_prices;
 use crate::reading::{Audited, bytes_in};
 use crate::report::Form;
 use crate::tables::table::{Table, Tabled, put_csv};
@@ -150,7 +150,7 @@ fn put_lones_text<K: TextSink + Drop>(
         ),
         Form::Json => put_object(alloc, out, audited, lones, made),
         Form::Csv(table) => put_table_of(alloc, lones, made, table, out),
-        Form::Prices => put_prices_of(alloc, audited, made, out),
+        Form::Changes(of) => put_changes_of(alloc, audited, made, of, out),
         Form::Schedule => put_lines_of(
             alloc,
             audited.settings.settings().pharmacies.len(),
@@ -191,18 +191,24 @@ fn put_table_of<K: TextSink + Drop>(
     }
 }
 
-/// Puts the price changes of payers, where each node makes its log.
-fn put_prices_of<K: TextSink + Drop>(
+/// Puts the changes of payers' plans, where each node makes its log.
+fn put_changes_of<K: TextSink + Drop>(
     alloc: Global,
     audited: &Audited,
     made: bool,
+    of: Changes,
     out: &mut Outgoing<K>,
 ) -> Result<(), AllocError>
     ensures { OnOk result (Puts out.old out.new
-        (cond made (log_prices audited.now.settings (logs_seen audited.now.logs.items)) [])) }
+        (cond made (log_changes_csv audited.now.settings of (logs_seen audited.now.logs.items)) [])) }
 {
     if made {
-        let text = log_prices(alloc, audited.settings.settings(), audited.logs.as_slice())?;
+        let text = log_changes_csv(
+            alloc,
+            audited.settings.settings(),
+            of,
+            audited.logs.as_slice(),
+        )?;
         out.put_text(text.as_slice())
     } else {
         Ok(())

@@ -4,18 +4,18 @@ ghost use Rattle.std.specs.Prelude.{◌≡◌, ◌++◌, true, false, codes, map
 ghost use Rattle.world_setup.specs.Seen.{event_seen};
 ghost use Rattle.node_log.specs.LogSeen.{log_seen, logs_seen};
 ghost use Rattle.table_text.specs.Adding.{Adds};
+ghost use Rattle.log_audit.specs.ChangeTables.{run_changes_csv};
 ghost use Rattle.log_audit.specs.Judged.{IsFound, IsLeft, IsTold};
-ghost use Rattle.log_audit.specs.Prices.{run_prices};
 ghost use Rattle.log_audit.specs.Tabled.{run_csv};
 ghost use Rattle.log_audit.specs.Telling.{log_line, log_lines, legal_line, run_lines, run_object, IsSchedule, IsTextOf, IsNoRunLines, IsNoRunObject, IsUntold, IsWritten};
 ghost use Rattle.log_audit.specs.Outgoing.{Puts, PutsSome};
 
+use crate::change_tables::{Changes, run_changes_csv};
 use crate::fault::AuditFault;
 use crate::judging::{Found, LegalRun, run_alone, run_and_world};
 use crate::left::{put_left_counts, put_left_table, tells_senders};
 use crate::object::{no_run_object, put_run_object, torn_at};
 use crate::outgoing::{Outgoing, TextSink};
-use crate::prices::run_prices;
 use crate::reading::Audited;
 use crate::reasons::reasons;
 use crate::scheduling::scheduled;
@@ -45,8 +45,8 @@ pub enum Form {
     /// A table of what the run left, or of what the nodes have, as CSV; nothing where there is none, or a node does not make its
     /// log.
     Csv(Table),
-    /// The price changes of payers, as CSV; nothing where there is no table.
-    Prices,
+    /// The changes of payers' plans, as CSV; nothing where there is no table.
+    Changes(Changes),
     /// The input of a replay of the run; the lines where there is none.
     Schedule,
 }
@@ -107,13 +107,13 @@ fn found_for(alloc: Global, audited: &Audited, form: Form) -> Result<Found, Allo
 }
 
 /// Whether the world of a run is all that is told in this form. Which event sent a packet only making the events tells, and
-/// prices and schedules are told of events.
+/// changes of plans and schedules are told of events.
 fn wants_world(form: Form) -> bool {
     match form {
         Form::Lines => true,
         Form::Json => false,
         Form::Csv(table) => !tells_senders(table),
-        Form::Prices => false,
+        Form::Changes(_) => false,
         Form::Schedule => false,
     }
 }
@@ -133,7 +133,7 @@ fn put_run<K: TextSink + Drop>(
         Form::Lines => put_made(out, run_lines(alloc, audited, run)),
         Form::Json => put_object_of(alloc, audited, run, out),
         Form::Csv(table) => put_table_of(alloc, audited, run, table, out),
-        Form::Prices => put_made(out, prices_of(alloc, audited, run)),
+        Form::Changes(of) => put_made(out, changes_of(alloc, audited, run, of)),
         Form::Schedule => put_made(out, schedule_of(alloc, audited, run)),
     }
 }
@@ -170,7 +170,7 @@ fn no_run_text(alloc: Global, audited: &Audited, form: Form) -> Result<Vec<u8>, 
         Form::Lines => no_run_lines(alloc, audited),
         Form::Json => no_run_told(alloc, audited),
         Form::Csv(_) => Ok(Vec::new(alloc)),
-        Form::Prices => Ok(Vec::new(alloc)),
+        Form::Changes(_) => Ok(Vec::new(alloc)),
         Form::Schedule => no_run_lines(alloc, audited),
     }
 }
@@ -203,12 +203,17 @@ fn put_table_of<K: TextSink + Drop>(
     put_left_table(alloc, out, settings_alone(audited), run, table)
 }
 
-/// The price changes of a run.
-fn prices_of(alloc: Global, audited: Audited, run: LegalRun) -> Result<Vec<u8>, AuditFault>
-    ensures { IfOk result (λ text. text.items ≡ run_prices audited.settings (map event_seen run.events.items)) }
+/// The changes of plans of a run.
+fn changes_of(
+    alloc: Global,
+    audited: Audited,
+    run: LegalRun,
+    of: Changes,
+) -> Result<Vec<u8>, AuditFault>
+    ensures { IfOk result (λ text. text.items ≡ run_changes_csv audited.settings of (map event_seen run.events.items)) }
 {
     let events = run.into_events();
-    Ok(run_prices(alloc, audited.settings.settings(), events.as_slice())?)
+    Ok(run_changes_csv(alloc, audited.settings.settings(), of, events.as_slice())?)
 }
 
 /// The input of a replay of a run.

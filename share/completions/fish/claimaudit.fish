@@ -1,7 +1,7 @@
 # Completions of claimaudit for fish; written by tools/words.
 complete -c claimaudit -l alone -d 'judges each log by itself, and nothing of other nodes'
 complete -c claimaudit -l calls -d 'writes the records of each log as CSV, with their times and references, and judges nothing'
-complete -c claimaudit -l csv -x -a 'payments entries rows packets counted open prices' -d 'writes a table of what the run left as CSV: payments, entries, rows, packets, counted or prices; alone, payments, entries, rows, open, counted or prices'
+complete -c claimaudit -l csv -x -a 'payments entries rows packets counted open prices terms' -d 'writes a table of what the run left as CSV: payments, entries, rows, packets, counted, prices or terms; alone, payments, entries, rows, open, counted, prices or terms'
 complete -c claimaudit -l json -d 'writes one JSON object, with all tables of what the run left'
 complete -c claimaudit -l schedule -d 'writes the input of a replay of the run in place of the counts'
 complete -c claimaudit -l compare -d 'compares tables as CSV, in place of SETTINGS and LOG: counted and entries of a pharmacy, payments of a payer'

@@ -1,5 +1,6 @@
 use Rattle.std.proofs.Common.{◌≡◌, drop, map}
-use Rattle.log_audit.specs.Prices.{change_seen, price_after}
+use Rattle.log_audit.specs.Changes.{change_seen}
+use Rattle.log_audit.specs.Prices.{price_after}
 use Rattle.log_audit.proofs.prices.price_after.Given as goal
 
 -- the price so far, after the changes that are left

@@ -2,7 +2,7 @@ use Rattle.std.proofs.Common.{map, refl}
 use Rattle.world_setup.specs.Seen.{event_seen}
 use Rattle.log_audit.specs.Tabled.{run_csv}
 use Rattle.log_audit.specs.Telling.{run_object, IsTextOf}
-use Rattle.log_audit.specs.declared.report.Form.TheVariants.{Lines, Json, Csv, Prices, Schedule}
+use Rattle.log_audit.specs.declared.report.Form.TheVariants.{Lines, Json, Csv, Changes, Schedule}
 use Rattle.log_audit.proofs.Writing.{made_put, text_put}
 use Rattle.log_audit.proofs.report.put_run.Goals as goal
 
@@ -22,10 +22,10 @@ returns-in-Csv g c =
     rw c.in-Csv.is
     (text_put c.put_table_of.result (IsTextOf c.args.audited events (Csv c.in-Csv.table)) c.args.out.now c.put_table_of.new.out (run_csv c.args.audited.settings events c.in-Csv.table) c.put_table_of.ensures refl)
 
-pub returns-in-Prices : goal.returns-in-Prices
-returns-in-Prices g c =
-    rw c.in-Prices.is
-    (made_put c.put_made-in-Prices.result c.prices_of.result (IsTextOf c.args.audited (map event_seen c.args.run.events.items) Prices) c.args.out.now c.put_made-in-Prices.new.out c.put_made-in-Prices.ensures c.prices_of.ensures)
+pub returns-in-Changes : goal.returns-in-Changes
+returns-in-Changes g c =
+    rw c.in-Changes.is
+    (made_put c.put_made-in-Changes.result c.changes_of.result (IsTextOf c.args.audited (map event_seen c.args.run.events.items) (Changes c.in-Changes.of)) c.args.out.now c.put_made-in-Changes.new.out c.put_made-in-Changes.ensures c.changes_of.ensures)
 
 pub returns-in-Schedule : goal.returns-in-Schedule
 returns-in-Schedule g c =

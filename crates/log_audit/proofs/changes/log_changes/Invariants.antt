@@ -1,8 +1,8 @@
 use Rattle.std.proofs.Common.{◌≡◌, ◌++◌, drop, map}
 use Rattle.std.specs.List.{flat_map}
 use Rattle.node_log.specs.LogSeen.{logs_seen}
-use Rattle.log_audit.specs.Prices.{change_seen, log_changes}
-use Rattle.log_audit.proofs.prices.log_changes.Given as goal
+use Rattle.log_audit.specs.Changes.{change_seen, log_changes}
+use Rattle.log_audit.proofs.changes.log_changes.Given as goal
 
 -- the changes so far, and then those of the logs that are left
 abbrev pub invariant-loop-log : goal.invariant-loop-log

@@ -1,6 +1,6 @@
 use Rattle.std.proofs.Common.{◌≡◌, ◌+◌, ◌++◌, drop, map}
-use Rattle.log_audit.specs.Prices.{change_seen, call_changes}
-use Rattle.log_audit.proofs.prices.push_calls.Given as goal
+use Rattle.log_audit.specs.Changes.{change_seen, call_changes}
+use Rattle.log_audit.proofs.changes.push_calls.Given as goal
 
 -- the changes so far, and then those among the calls that are left
 abbrev pub invariant-loop-passed : goal.invariant-loop-passed

@@ -1,7 +1,7 @@
 use Rattle.std.proofs.Common.{◌≡◌, ◌+◌, ◌++◌, drop, map}
 use Rattle.world_setup.specs.Seen.{event_seen}
-use Rattle.log_audit.specs.Prices.{change_seen, event_changes}
-use Rattle.log_audit.proofs.prices.event_changes.Given as goal
+use Rattle.log_audit.specs.Changes.{change_seen, event_changes}
+use Rattle.log_audit.proofs.changes.event_changes.Given as goal
 
 -- the changes so far, and then those among the events that are left
 abbrev pub invariant-loop-passed : goal.invariant-loop-passed
