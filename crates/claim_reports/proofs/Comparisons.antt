@@ -1,47 +1,18 @@
 -- Maps of the elements of lists, and what is found by them.
-use Rattle.std.proofs.Common.{◌≡◌, ◌<◌, ℕ, ◌+◌, ◌==◌, Bool, cond, List, [], ◌∷◌, ◌++◌, length, get_or, take, refl, sym, ap, subst, ◌∙◌, inl, inr}
+use Rattle.std.proofs.Common.{◌≡◌, ◌<◌, ℕ, ◌+◌, ◌==◌, Bool, cond, List, [], ◌∷◌, ◌++◌, length, get_or, drop, refl, sym, ap, subst, ◌∙◌, inl, inr}
 use Rattle.std.specs.Prelude.{Option, Some, None}
 use Rattle.std.specs.Option.{option_or}
 use Rattle.std.specs.Ordering.{nat_cmp}
 use Rattle.std.specs.List.{flat_map}
 use Rattle.std.specs.BTreeMap.{BTreeMap, Updates, get}
-use Rattle.std.proofs.lemmas.Bool.{cases_Bool, eqb-true, eqb-false, eq-eqb}
-use Rattle.std.proofs.lemmas.List.{take_more}
+use Rattle.std.proofs.lemmas.Bool.{cases_Bool, eqb-true, eqb-false}
+use Rattle.std.proofs.lemmas.List.{drop_more}
 use Rattle.claim_reports.specs.declared.beside.Counted.{Counted}
 use Rattle.claim_reports.specs.declared.beside.Made.{Made}
 use Rattle.claim_reports.specs.declared.beside.Entry.{Entry}
 use Rattle.claim_reports.specs.declared.beside.Finding.{Finding}
 use Rattle.claim_reports.specs.Comparing.{last_with, made_under, entry_under, counted_under, told, counted_finding, made_finding, findings, Findings}
 use Rattle.claim_reports.proofs.Adding.{apart_at}
-
--- the last with a number after one element more
-last_behind : {A : Type 0} (number : A → ℕ) (n : ℕ) (xs : List A) (x : A) → last_with number n (xs ++ x ∷ []) ≡ cond (number x == n) (Some x) (last_with number n xs)
-last_behind number n [] x = refl
-last_behind {A} number n (y ∷ more) x =
-    let own : Option A = cond (number y == n) (Some y) None in
-    let rest = last_with number n more in
-    ap (λ (o : Option A). option_or o own) (last_behind number n more x)
-    ∙ elim (cases_Bool (number x == n)) [
-      | inl same ↦ ap (λ (b : Bool). option_or (cond b (Some x) rest) own) same ∙ sym (ap (λ (b : Bool). cond b (Some x) (option_or rest own)) same)
-      | inr other ↦ ap (λ (b : Bool). option_or (cond b (Some x) rest) own) other ∙ sym (ap (λ (b : Bool). cond b (Some x) (option_or rest own)) other)
-    ]
-
-last_at : {A : Type 0} (number : A → ℕ) (xs : List A) (x : A) (old new : BTreeMap ℕ A) → Updates nat_cmp old new (number x) (Some x)
-    → ((n : ℕ) → get nat_cmp old n ≡ last_with number n xs) → (n : ℕ) → get nat_cmp new n ≡ last_with number n (xs ++ x ∷ [])
-last_at {A} number xs x old new updates before n = elim (cases_Bool (number x == n)) [
-  | inl same ↦
-      subst (λ (k : ℕ). get nat_cmp new k ≡ last_with number k (xs ++ x ∷ [])) (eqb-true (number x) n same)
-      (updates.1 ∙ sym (last_behind number (number x) xs x ∙ ap (λ (b : Bool). cond b (Some x) (last_with number (number x) xs)) (eq-eqb (number x) (number x) refl)))
-  | inr other ↦
-      updates.2 n (apart_at (number x) n (eqb-false (number x) n other))
-      ∙ (before n ∙ sym (last_behind number n xs x ∙ ap (λ (b : Bool). cond b (Some x) (last_with number n xs)) other))
-]
-
-pub last_more : {A : Type 0} (number : A → ℕ) (xs : List A) (i : ℕ) (d : A) (old new : BTreeMap ℕ A) → i < length xs
-    → Updates nat_cmp old new (number (get_or xs i d)) (Some (get_or xs i d)) → ((n : ℕ) → get nat_cmp old n ≡ last_with number n (take i xs))
-    → (n : ℕ) → get nat_cmp new n ≡ last_with number n (take (i + 1) xs)
-last_more {A} number xs i d old new lt updates before n =
-    last_at number (take i xs) (get_or xs i d) old new updates before n ∙ ap (λ (ys : List A). last_with number n ys) (sym (take_more xs i d lt))
 
 -- the last of some elements, or else the one that a map has, where one of them is entered before the others
 settled : {A : Type 0} (o : Option A) (x : A) (p : Option A) → option_or o (Some x) ≡ option_or (option_or o (Some x)) p
@@ -64,6 +35,12 @@ last_later {A} number n x more old new updates =
           ap (option_or rest) (updates.2 n (apart_at (number x) n (eqb-false (number x) n other)))
           ∙ passed rest (get nat_cmp old n) ∙ sym (ap (λ (b : Bool). option_or (option_or rest (cond b (Some x) None)) (get nat_cmp old n)) other)
     ]
+
+-- the same of a list, at a place
+pub last_next : {A : Type 0} (number : A → ℕ) (n : ℕ) (xs : List A) (i : ℕ) (d : A) (old new : BTreeMap ℕ A) → i < length xs → Updates nat_cmp old new (number (get_or xs i d)) (Some (get_or xs i d))
+    → option_or (last_with number n (drop (i + 1) xs)) (get nat_cmp new n) ≡ option_or (last_with number n (drop i xs)) (get nat_cmp old n)
+last_next {A} number n xs i d old new lt updates =
+    last_later number n (get_or xs i d) (drop (i + 1) xs) old new updates ∙ ap (λ (ys : List A). option_or (last_with number n ys) (get nat_cmp old n)) (sym (drop_more xs i d lt))
 
 -- what is found by maps is what is found of the lists
 pub found_is : (counted : List Counted) (entries : List Entry) (made : List Made) (held : ℕ → Option Entry) (known : ℕ → Option Counted) (paid : ℕ → Option Made) (some all : List Finding)

@@ -12,6 +12,7 @@ use Rattle.claim_reports.specs.BookLaws.{remitted_of, rulings_of}
 use Rattle.claim_reports.specs.Daily.{daily_in, if_moved, of_book_in, values_of}
 use Rattle.claim_reports.specs.Rulings.{move_to}
 use Rattle.claim_reports.specs.Shelves.{has}
+use Rattle.claim_reports.specs.Statement.{numbers_of}
 use Rattle.claim_reports.specs.Tables.{given, given_by, number_in, ◌>>=◌}
 
 -- what a row gives is of the book that the row says
@@ -33,11 +34,9 @@ same_payer x y e = ap (λ (r : DailyRuling). r.payer) (sym (some_same x y e))
 values_book : (c : DailyColumns) (payer : ℕ) (m : Move) (row : List (List ℕ)) (r : DailyRuling) → values_of c payer m row ≡ Some r → r.payer ≡ payer
 values_book c payer m row r e =
     let a = split_then (number_in c.ruled_on.place row) _ r e in
-    let b = split_then (number_in c.rulings.number.place row) _ r a.2 in
-    let d = split_then (number_in c.rulings.transaction.place row) _ r b.2 in
-    let f = split_then (number_in c.rulings.prescription.place row) _ r d.2 in
-    let g = split_then (number_in c.rulings.day.place row) _ r f.2 in
-    same_payer _ r g.2
+    let b = split_then (numbers_of c.rulings row) _ r a.2 in
+    let d = split_then (number_in c.rulings.day.place row) _ r b.2 in
+    same_payer _ r d.2
 
 moved_book : (c : DailyColumns) (payer : ℕ) (row : List (List ℕ)) (m : Option Move) (one : Option DailyRuling) → if_moved c payer row m ≡ Some one → IsBook payer one
 moved_book c payer row m None e = refl

@@ -6,7 +6,7 @@ use Rattle.std.proofs.lemmas.Bool.{cases_Bool, ltb-true, ltb-false}
 use Rattle.std.proofs.lemmas.List.{drop-replicate, length-set, length-take-le, drop-set-lt, drop-drop}
 use Rattle.std.proofs.Math.Seq.{take-suc-set}
 use Rattle.claim_reports.specs.declared.books.Span.{Span}
-use Rattle.claim_reports.specs.Shelves.{first_comma, more_of, onto, parts, with_parts}
+use Rattle.claim_reports.specs.Shelves.{first_of, more_of, onto, parts, with_parts}
 
 -- one element more in a room
 pub length-one_more : {A : Type 0} (room : ℕ) (xs : List A) (i : ℕ) (x : A) → length xs ≡ room → length (slice_set xs i x) ≡ room
@@ -49,7 +49,7 @@ whole (byte ∷ more) none = elim (cases_Bool (byte == 44)) [
 ]
 
 -- a part more, after these numbers and ranges
-cut_at : (text : List ℕ) (place : ℕ) → first_comma text ≡ Some place → parts text ≡ take place text ∷ parts (drop (place + 1) text)
+cut_at : (text : List ℕ) (place : ℕ) → first_of 44 text ≡ Some place → parts text ≡ take place text ∷ parts (drop (place + 1) text)
 cut_at text place e = elim (cases_Bool (nat_lt (comma_at text) (length text))) [
   | inl few ↦
       let is : comma_at text ≡ place = same (comma_at text) place (rw few at e) in
@@ -63,11 +63,11 @@ cut_at text place e = elim (cases_Bool (nat_lt (comma_at text) (length text))) [
     no_place : (b : ℕ) → let o : Option ℕ = None in o ≡ Some b → ⊥
     no_place b e = cc e
 
-pub part_more : (books : Option (List Span)) (text : List ℕ) (place : ℕ) → first_comma text ≡ Some place
+pub part_more : (books : Option (List Span)) (text : List ℕ) (place : ℕ) → first_of 44 text ≡ Some place
     → with_parts books (parts text) ≡ with_parts (more_of books (take place text)) (parts (drop (place + 1) text))
 part_more books text place at = ap (with_parts books) (cut_at text place at)
 
-pub part_last : (books : Option (List Span)) (text : List ℕ) → first_comma text ≡ None → with_parts books (parts text) ≡ more_of books text
+pub part_last : (books : Option (List Span)) (text : List ℕ) → first_of 44 text ≡ None → with_parts books (parts text) ≡ more_of books text
 part_last books text e = elim (cases_Bool (nat_lt (comma_at text) (length text))) [
   | inl few ↦ absurd (some_place (comma_at text) (rw few at e))
   | inr none ↦ ap (with_parts books) (whole text (λ less. ltb_not (comma_at text) (length text) none less))

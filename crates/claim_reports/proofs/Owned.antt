@@ -14,7 +14,7 @@ use Rattle.claim_reports.specs.declared.ledger.Move.TheVariants.{Paid, Reversed}
 use Rattle.claim_reports.specs.BookLaws.{AreOwned, AreSplit, RemitTogether, back_over, paid_over, rulings_of, stands_over, stood_over}
 use Rattle.claim_reports.specs.Daily.{earlier, is_before, is_within, moves_of, moves_up_to, within}
 use Rattle.claim_reports.specs.Ledger.{back_cents, is_reversed, paid_cents, paid_for, paid_total, reverses, standing_cents, standing_total, taken_back}
-use Rattle.claim_reports.specs.Remitted.{auth_of}
+use Rattle.claim_reports.specs.Statement.{auth_of}
 use Rattle.claim_reports.specs.Shelves.{has}
 use Rattle.claim_reports.proofs.Shares.{both_tests, split_sum}
 

@@ -1,20 +1,19 @@
 -- Rulings that are read row by row, and their lines.
 use Rattle.std.proofs.Common.{◌≡◌, ◌<◌, ℕ, ◌+◌, ◌-◌, ◌==◌, Bool, true, false, cond, List, [], ◌∷◌, ◌++◌, length, get_or, map, take, drop, refl, sym, ap, subst, ◌∙◌, append_assoc, append-nil, arith}
-use Rattle.std.specs.Prelude.{Option, Some, None, min, suc, if◌then◌else◌, nat_lt, option_map, unwrap_or}
+use Rattle.std.specs.Prelude.{Option, Some, None, Result, Ok, Err, IfOk, codes, suc, if◌then◌else◌, nat_lt, option_map, unwrap_or}
 use Rattle.std.proofs.Math.Seq.{take-nil}
 use Rattle.std.proofs.lemmas.Bool.{ltb-true, ltb-false}
 use Rattle.std.proofs.lemmas.List.{drop_more, map-append, take_more}
 use Rattle.claim_reports.specs.declared.ledger.Move.{Move}
 use Rattle.claim_reports.specs.declared.rulings.Remittance.{Remittance}
 use Rattle.claim_reports.specs.declared.rulings.RulingColumns.{RulingColumns}
-use Rattle.table_text.specs.Rows.{csv_row, head_text}
-use Rattle.claim_reports.specs.declared.ledger.Period.{Period}
-use Rattle.claim_reports.specs.declared.settling.Settled.{Settled}
+use Rattle.table_text.specs.Rows.{head_text}
 use Rattle.claim_reports.specs.Rulings.{ruling_columns_in, moves_before, moves_behind, rulings_behind, Ruling, Read, own_row, move_to, numbered, rulings_from, AreRulings, with_ruling, read_own, read_row, read_rows}
 use Rattle.claim_reports.specs.declared.ledger.Ledger.{Ledger}
 use Rattle.claim_reports.specs.declared.ledger.Moved.{Moved}
-use Rattle.claim_reports.specs.Ledger.{IsLedgerOf, IsPeriod, TakesAll, back_cents, taken_back}
-use Rattle.claim_reports.specs.Remitted.{AddsLine, AddsLines, IsRemitted, IsSummed, line_names, line_text, lines_text, sum_names, sums_row}
+use Rattle.claim_reports.specs.Ledger.{IsLedgerOf, TakesAll, back_cents, taken_back}
+use Rattle.claim_reports.specs.Remitted.{AddsLine, AddsLines, IsRemitted, IsSummed, line_text, lines_text, title_of}
+use Rattle.claim_reports.specs.Statement.{IsSums, Title, line_names}
 use Rattle.claim_reports.specs.Tables.{AreRecordsOf, given, given_by, rows_of, number_in, ◌>>=◌}
 use Rattle.claim_reports.proofs.Rowwise.{behind, by_one}
 
@@ -236,14 +235,13 @@ pub lines_end : (c : RulingColumns) (asked : Remittance) (before passed : List M
 lines_end c asked before passed rulings left first out ledger none so_far =
     (so_far.text, so_far.lines ∙ ap (λ (rs : List Ruling). behind so_far.text (lines_text c asked (before ++ passed) rs)) none ∙ ap (λ (t : List ℕ). let o : Option (List ℕ) = Some t in o) (append-nil so_far.text), so_far.told)
 
--- ---- sums
+-- ---- sums, and lines under the names of their columns
 
-pub summed_is : (table text : List ℕ) (asked : Remittance) (records : List (List (List ℕ))) (columns : RulingColumns) (rulings : List Ruling) (up_to : ℕ) (before moves : List Move) (lines : List Ruling) (period : Period) (settled : Settled)
+pub summed_is : {A E : Type 0} (items : A → List ℕ) (r : Result A E) (table : List ℕ) (asked : Remittance) (records : List (List (List ℕ))) (columns : RulingColumns) (rulings : List Ruling) (up_to : ℕ) (before moves : List Move) (lines : List Ruling) (title : Title)
     → AreRecordsOf table records → columns ≡ ruling_columns_in records → AreRulings asked records columns rulings up_to
-    → before ≡ moves_before asked.after rulings → lines ≡ rulings_behind asked.after rulings → moves ≡ map (λ (r : Ruling). r.moves) lines
-    → IsPeriod before moves period → settled.check + (period.moved.reversed + asked.owed) ≡ period.moved.paid + settled.owed → min settled.check settled.owed ≡ 0
-    → text ≡ head_text sum_names ++ csv_row (sums_row asked up_to period settled) → IsSummed table asked text
-summed_is table text asked records columns rulings up_to before moves lines period settled are have read is_before are_behind is_behind is whole one told = record {
+    → before ≡ moves_before asked.after rulings → lines ≡ rulings_behind asked.after rulings → moves ≡ map (λ (r : Ruling). r.moves) lines → title ≡ title_of asked up_to
+    → IfOk r (λ text. IsSums title before moves asked.owed (items text)) → IfOk r (λ text. IsSummed table asked (items text))
+summed_is items (Ok text) table asked records columns rulings up_to before moves lines title are have read is_before are_behind is_behind titled sums = record {
   records = records;
   are = are;
   columns = columns;
@@ -251,21 +249,15 @@ summed_is table text asked records columns rulings up_to before moves lines peri
   rulings = rulings;
   up_to = up_to;
   read = read;
-  period = period;
-  is =
-      subst (λ (ms : List Move). IsPeriod ms (moves_behind asked.after rulings) period) is_before
-      (subst (λ (ms : List Move). IsPeriod before ms period) (is_behind ∙ ap (map (λ (r : Ruling). r.moves)) are_behind) is);
-  settled = settled;
-  whole = whole;
-  one = one;
-  told = told;
+  sums = rw (titled, is_before, is_behind, are_behind) at sums;
 }
+summed_is items (Err e) table asked records columns rulings up_to before moves lines title are have read is_before are_behind is_behind titled sums = tt
 
-pub remitted_is : (table text : List ℕ) (asked : Remittance) (records : List (List (List ℕ))) (columns : RulingColumns) (rulings : List Ruling) (up_to : ℕ) (before : List Move) (lines : List Ruling)
+pub remitted_is : {A E : Type 0} (items : A → List ℕ) (r : Result A E) (table : List ℕ) (asked : Remittance) (records : List (List (List ℕ))) (columns : RulingColumns) (rulings : List Ruling) (up_to : ℕ) (before : List Move) (lines : List Ruling)
     → AreRecordsOf table records → columns ≡ ruling_columns_in records → AreRulings asked records columns rulings up_to
     → before ≡ moves_before asked.after rulings → lines ≡ rulings_behind asked.after rulings
-    → AddsLines columns asked before lines (head_text line_names) text → IsRemitted table asked text
-remitted_is table text asked records columns rulings up_to before lines are have read is_before are_behind adds = record {
+    → IfOk r (λ text. AddsLines columns asked before lines (head_text (line_names (codes "ruling"))) (items text)) → IfOk r (λ text. IsRemitted table asked (items text))
+remitted_is items (Ok text) table asked records columns rulings up_to before lines are have read is_before are_behind adds = record {
   records = records;
   are = are;
   columns = columns;
@@ -277,3 +269,4 @@ remitted_is table text asked records columns rulings up_to before lines are have
   of = (λ i. lines_text columns asked (sym is_before i) (sym are_behind i)) ∙ adds.1;
   told = adds.2;
 }
+remitted_is items (Err e) table asked records columns rulings up_to before lines are have read is_before are_behind adds = tt

@@ -1,12 +1,12 @@
 -- What a refusal tells, of causes that come one after the other.
-use Rattle.std.proofs.Common.{◌≡◌, ◌<◌, ◌≤◌, ℕ, ◌+◌, ◌^◌, List, [], length, get_or, map, drop, refl, sym, ap, ◌∙◌, arith}
-use Rattle.std.specs.Prelude.{Option, Some, None, Result, Ok, Err, IsErrAnd, unwrap_or}
+use Rattle.std.proofs.Common.{◌≡◌, ◌<◌, ◌≤◌, ℕ, ◌+◌, ◌^◌, List, [], length, get_or, map, drop, refl, sym, ap, subst, ◌∙◌, arith}
+use Rattle.std.specs.Prelude.{Option, Some, None, Result, Ok, Err, IsErrAnd}
 use Rattle.std.proofs.Math.ListN.{drop_of_length-le}
 use Rattle.std.specs.Option.{option_or}
 use Rattle.std.proofs.lemmas.List.{drop_more}
 use Rattle.claim_reports.specs.declared.fault.ReportFault.{ReportFault}
-use Rattle.claim_reports.specs.Causes.{Cause, RefusesFor, Tells, cause_of, bad_at, bad_rows, table_cause, uneven}
-use Rattle.claim_reports.specs.Tables.{given_by, rows_of}
+use Rattle.claim_reports.specs.Causes.{Cause, RefusesFor, Tells, cause_of, bad_at, bad_rows, columns_cause, table_cause, uneven}
+use Rattle.claim_reports.specs.Tables.{given_by}
 use Rattle.claim_reports.proofs.Rowwise.{behind, ends}
 
 -- it tells the first of two, or the second where the first is none
@@ -41,24 +41,13 @@ tells_same e x y same is = record { why = rw same is.why }
 pub neither : (x y : Option Cause) → x ≡ None → y ≡ None → option_or x y ≡ None
 neither x y none also = rw (none, also) refl
 
--- the same of the bad values of a row
-both_bad : (table row : ℕ) (x y : Option (List ℕ)) → bad_at table row (option_or x y) ≡ option_or (bad_at table row x) (bad_at table row y)
-both_bad table row None y = refl
-both_bad table row (Some name) y = refl
-
-pub bad_first : (e : ReportFault) (table row : ℕ) (x y : Option (List ℕ)) → Tells e (bad_at table row x) → Tells e (bad_at table row (option_or x y))
-bad_first e table row x y is = tells_same e _ _ (both_bad table row x y) (tells_first e _ _ is)
-
-pub bad_then : (e : ReportFault) (table row : ℕ) (x y : Option (List ℕ)) → bad_at table row x ≡ None → Tells e (bad_at table row y) → Tells e (bad_at table row (option_or x y))
-bad_then e table row x y none is = tells_same e _ _ (both_bad table row x y) (tells_then e _ _ none is)
-
-pub neither_bad : (table row : ℕ) (x y : Option (List ℕ)) → bad_at table row x ≡ None → bad_at table row y ≡ None → bad_at table row (option_or x y) ≡ None
-neither_bad table row x y none also = both_bad table row x y ∙ neither _ _ none also
-
 -- a refusal that is passed on
 pub passed : {A : Type 0} (r : Result A ReportFault) (e : ReportFault) (x : Option Cause) → IsErrAnd r (λ f. f ≡ e) → Tells e x → RefusesFor r x
 passed (Ok y) e x h is = absurd h
 passed (Err f) e x h is = record { why = rw h is.why }
+
+pub refuses_same : {A : Type 0} (r : Result A ReportFault) (x y : Option Cause) → x ≡ y → RefusesFor r x → RefusesFor r y
+refuses_same r x y same is = subst (λ (o : Option Cause). RefusesFor r o) same is
 
 -- ---- rows
 
@@ -69,6 +58,10 @@ pub record IsRowAt {B : Type 0} (table : ℕ) (records : List B) (i t n : ℕ) (
   pub of : t ≡ table
   pub at : i + 1 < 2 ^ 64 → n ≡ i + 1
   pub is : held ≡ get_or records i z
+
+pub row_at : {B : Type 0} (table : ℕ) (records : List B) (i t n : ℕ) (held z : B) → i < length records → length records < 2 ^ 63 → t ≡ table → (i + 1 < 2 ^ 64 → n ≡ i + 1) → held ≡ get_or records i z
+    → IsRowAt table records i t n held z
+row_at table records i t n held z lt few of at is = record { lt = lt; few = few; of = of; at = at; is = is }
 
 here : {B : Type 0} (table : ℕ) (bad : List (List ℕ) → Option (List ℕ)) (fields_of : B → List (List ℕ)) (records : List B) (i t n : ℕ) (held z : B) → IsRowAt table records i t n held z
     → bad_at t n (bad (fields_of held)) ≡ bad_at table (i + 1) (bad (fields_of (get_or records i z)))
@@ -110,47 +103,17 @@ all_good {B} table bad c d fields_of records rows i same are le so_far =
     ∙ ap (λ (xs : List B). bad_rows table (bad c) (i + 1) (map fields_of xs)) (drop_of_length-le records le)
 
 -- what they give
-pub given_is : {A B : Type 0} (read : List (List ℕ) → Option (Option A)) (fields_of : B → List (List ℕ)) (records : List B) (rows : List (List (List ℕ))) (i : ℕ) (xs : List A)
-    → map fields_of records ≡ rows → length records ≤ i → given_by read (map fields_of records) ≡ behind xs (given_by read (map fields_of (drop i records))) → given_by read rows ≡ Some xs
-given_is read fields_of records rows i xs are le so_far =
-    ap (given_by read) (sym are) ∙ ends read fields_of records i xs (given_by read (map fields_of records)) (drop_of_length-le records le) so_far
-
-pub all_given : {A B C : Type 0} (read : C → List (List ℕ) → Option (Option A)) (c d : C) (fields_of : B → List (List ℕ)) (records : List B) (rows : List (List (List ℕ))) (i : ℕ) (xs : List A)
+pub given_is : {A B C : Type 0} (read : C → List (List ℕ) → Option (Option A)) (c d : C) (fields_of : B → List (List ℕ)) (records : List B) (rows : List (List (List ℕ))) (i : ℕ) (xs : List A)
     → c ≡ d → map fields_of records ≡ rows → length records ≤ i
-    → given_by (read c) (map fields_of records) ≡ behind xs (given_by (read c) (map fields_of (drop i records))) → unwrap_or (given_by (read d) rows) [] ≡ xs
-all_given {B = B} read c d fields_of records rows i xs same are le so_far =
-    ap (λ o. unwrap_or o [])
-    ((λ j. given_by (read (sym same j)) (sym are j))
-    ∙ ends (read c) fields_of records i xs (given_by (read c) (map fields_of records)) (drop_of_length-le records le) so_far)
+    → given_by (read c) (map fields_of records) ≡ behind xs (given_by (read c) (map fields_of (drop i records))) → given_by (read d) rows ≡ Some xs
+given_is read c d fields_of records rows i xs same are le so_far =
+    (λ j. given_by (read (sym same j)) (sym are j)) ∙ ends (read c) fields_of records i xs (given_by (read c) (map fields_of records)) (drop_of_length-le records le) so_far
 
--- ---- whole tables: the text of one has these records, and a number
-
-with_names : {C : Type 0} (missing : ℕ → List (List (List ℕ)) → Option Cause) (bad : C → List (List ℕ) → Option (List ℕ)) (columns : List (List (List ℕ)) → C) (table n : ℕ) (records held : List (List (List ℕ)))
-    → n ≡ table → records ≡ held
-    → table_cause table (missing table records) (bad (columns records)) records
-    ≡ option_or (uneven table records) (option_or (missing n held) (bad_rows n (bad (columns held)) 1 (rows_of held)))
+-- of a table whose text was read that its columns and its rows are wrong
+pub table_is : {C : Type 0} (missing : ℕ → List (List (List ℕ)) → Option Cause) (bad : C → List (List ℕ) → Option (List ℕ)) (columns : List (List (List ℕ)) → C) (table n : ℕ) (records held : List (List (List ℕ)))
+    → n ≡ table → records ≡ held → uneven table records ≡ None
+    → columns_cause n (missing n held) (bad (columns held)) held ≡ table_cause table (missing table records) (bad (columns records)) records
 unfolding table_cause
-with_names missing bad columns table n records held number are =
-    λ j. option_or (uneven table records) (option_or (missing (sym number j) (are j)) (bad_rows (sym number j) (bad (columns (are j))) 1 (rows_of (are j))))
-
-pub none_read : {C : Type 0} (missing : ℕ → List (List (List ℕ)) → Option Cause) (bad : C → List (List ℕ) → Option (List ℕ)) (columns : List (List (List ℕ)) → C) (table : ℕ) (records : List (List (List ℕ))) (e : ReportFault)
-    → Tells e (uneven table records) → Tells e (table_cause table (missing table records) (bad (columns records)) records)
-unfolding table_cause
-none_read missing bad columns table records e is = tells_first e _ _ is
-
-pub names_tell : {C : Type 0} (missing : ℕ → List (List (List ℕ)) → Option Cause) (bad : C → List (List ℕ) → Option (List ℕ)) (columns : List (List (List ℕ)) → C) (table n : ℕ) (records held : List (List (List ℕ))) (e : ReportFault)
-    → n ≡ table → records ≡ held → uneven table records ≡ None → Tells e (missing n held) → Tells e (table_cause table (missing table records) (bad (columns records)) records)
-names_tell missing bad columns table n records held e number are even is =
-    tells_same e _ _ (with_names missing bad columns table n records held number are) (tells_then e _ _ even (tells_first e _ _ is))
-
-pub rows_tell : {C : Type 0} (missing : ℕ → List (List (List ℕ)) → Option Cause) (bad : C → List (List ℕ) → Option (List ℕ)) (columns : List (List (List ℕ)) → C) (table n : ℕ) (records held : List (List (List ℕ))) (e : ReportFault)
-    → n ≡ table → records ≡ held → uneven table records ≡ None → missing n held ≡ None → Tells e (bad_rows n (bad (columns held)) 1 (rows_of held))
-    → Tells e (table_cause table (missing table records) (bad (columns records)) records)
-rows_tell missing bad columns table n records held e number are even there is =
-    tells_same e _ _ (with_names missing bad columns table n records held number are) (tells_then e _ _ even (tells_then e _ _ there is))
-
-pub nothing_wrong : {C : Type 0} (missing : ℕ → List (List (List ℕ)) → Option Cause) (bad : C → List (List ℕ) → Option (List ℕ)) (columns : List (List (List ℕ)) → C) (table n : ℕ) (records held : List (List (List ℕ)))
-    → n ≡ table → records ≡ held → uneven table records ≡ None → missing n held ≡ None → bad_rows n (bad (columns held)) 1 (rows_of held) ≡ None
-    → table_cause table (missing table records) (bad (columns records)) records ≡ None
-nothing_wrong missing bad columns table n records held number are even there good =
-    with_names missing bad columns table n records held number are ∙ neither _ _ even (neither _ _ there good)
+table_is missing bad columns table n records held number are even =
+    (λ j. columns_cause (number j) (missing (number j) (sym are j)) (bad (columns (sym are j))) (sym are j))
+    ∙ sym (ap (λ (o : Option Cause). option_or o (columns_cause table (missing table records) (bad (columns records)) records)) even)

@@ -10,7 +10,8 @@ use Rattle.claim_reports.specs.declared.rulings.Line.{Line}
 use Rattle.claim_reports.specs.declared.rulings.RulingColumns.{RulingColumns}
 use Rattle.claim_reports.specs.Causes.{Cause, Tells, bad_at}
 use Rattle.claim_reports.specs.Ledger.{moves_cause}
-use Rattle.claim_reports.specs.Remitted.{lines_cause, numbers_bad}
+use Rattle.claim_reports.specs.Remitted.{lines_cause}
+use Rattle.claim_reports.specs.Statement.{numbers_bad}
 use Rattle.claim_reports.specs.Rulings.{Placed, Ruling, rulings_at}
 use Rattle.claim_reports.specs.RulingsSeen.{line_placed, line_seen, lines_placed, lines_seen}
 use Rattle.claim_reports.proofs.Telling.{tells_first, tells_same, tells_then}

@@ -1,6 +1,6 @@
 -- What is wrong with a remittance, of a table that was read.
-use Rattle.std.proofs.Common.{◌≡◌, ℕ, ◌+◌, ◌++◌, List, map, sym, ap, ◌∙◌}
-use Rattle.std.specs.Prelude.{None}
+use Rattle.std.proofs.Common.{◌≡◌, ℕ, ◌+◌, List, ◌++◌, map, sym, ap, ◌∙◌}
+use Rattle.std.specs.Prelude.{Option, None}
 use Rattle.std.specs.Option.{option_or}
 use Rattle.claim_reports.specs.declared.fault.ReportFault.{ReportFault}
 use Rattle.claim_reports.specs.declared.ledger.Move.{Move}
@@ -9,9 +9,10 @@ use Rattle.claim_reports.specs.declared.rulings.Remittance.{Remittance}
 use Rattle.claim_reports.specs.declared.rulings.RulingColumns.{RulingColumns}
 use Rattle.claim_reports.specs.Causes.{Tells, records_of, uneven}
 use Rattle.claim_reports.specs.Ledger.{over, period_cause, taken_back}
-use Rattle.claim_reports.specs.Remitted.{remitted_cause, remitting_cause, rows_cause, rulings_placed, settling_cause, summed_cause}
+use Rattle.claim_reports.specs.Remitted.{remitted_cause, remitting_cause, rows_cause, rulings_placed, summed_cause}
 use Rattle.claim_reports.specs.Rulings.{Ruling, moves_before, moves_behind, placed_behind, placed_from, ruling_columns_in, ruling_columns_missing, rulings_at, rulings_bad, rulings_behind}
 use Rattle.claim_reports.specs.RulingsSeen.{lines_placed, lines_seen}
+use Rattle.claim_reports.specs.Statement.{settling_cause}
 use Rattle.claim_reports.specs.Tables.{rows_of}
 use Rattle.claim_reports.proofs.Telling.{neither, tells_same, tells_then}
 use Rattle.claim_reports.proofs.WrongLines.{seen_is}
@@ -40,56 +41,23 @@ placed_is : (text : List ℕ) (asked : Remittance) (n : ℕ) (held : List (List 
 placed_is text asked n held columns lines is =
     (λ j. placed_from (sym is.number j) (columns_is text asked n held columns lines is j) asked 0 1 (rows_of (is.are j))) ∙ sym is.placed
 
-rulings_are : (text : List ℕ) (asked : Remittance) (n : ℕ) (held : List (List (List ℕ))) (columns : RulingColumns) (lines : List Line) → IsReadTable text asked n held columns lines
-    → rulings_at (rulings_placed asked (records_of text)) ≡ lines_seen lines
-rulings_are text asked n held columns lines is = ap rulings_at (placed_is text asked n held columns lines is) ∙ seen_is lines
-
--- ---- lines
-
-remitted_is : (text : List ℕ) (asked : Remittance) (n : ℕ) (held : List (List (List ℕ))) (columns : RulingColumns) (lines behind : List Line) (before : List Move) → IsReadTable text asked n held columns lines
+pub remitted_is : (text : List ℕ) (asked : Remittance) (n : ℕ) (held : List (List (List ℕ))) (columns : RulingColumns) (lines behind : List Line) (before : List Move) → IsReadTable text asked n held columns lines
     → before ≡ moves_before asked.after (lines_seen lines) → lines_placed behind ≡ placed_behind asked.after (lines_placed lines)
-    → remitted_cause text asked ≡ option_or (rows_cause asked (records_of text)) (remitting_cause columns before (lines_placed behind))
+    → remitting_cause columns before (lines_placed behind) ≡ remitted_cause text asked
 remitted_is text asked n held columns lines behind before is before_is behind_is =
-    let rulings = ap (moves_before asked.after) (rulings_are text asked n held columns lines is) ∙ sym before_is in
-    let later = ap (placed_behind asked.after) (placed_is text asked n held columns lines is) ∙ sym behind_is in
-    λ j. option_or (rows_cause asked (records_of text)) (remitting_cause (columns_is text asked n held columns lines is j) (rulings j) (later j))
+    let placed = placed_is text asked n held columns lines is in
+    let rulings = ap (moves_before asked.after) (ap rulings_at placed ∙ seen_is lines) ∙ sym before_is in
+    let later = ap (placed_behind asked.after) placed ∙ sym behind_is in
+    sym (λ j. option_or (rows_good text asked n held columns lines is j) (remitting_cause (columns_is text asked n held columns lines is j) (rulings j) (later j)))
 
-pub remitted_tells : (text : List ℕ) (asked : Remittance) (n : ℕ) (held : List (List (List ℕ))) (columns : RulingColumns) (lines behind : List Line) (before : List Move) (e : ReportFault) → IsReadTable text asked n held columns lines
-    → before ≡ moves_before asked.after (lines_seen lines) → lines_placed behind ≡ placed_behind asked.after (lines_placed lines)
-    → Tells e (remitting_cause columns before (lines_placed behind)) → Tells e (remitted_cause text asked)
-remitted_tells text asked n held columns lines behind before e is before_is behind_is tells =
-    tells_same e _ _ (remitted_is text asked n held columns lines behind before is before_is behind_is)
-    (tells_then e _ _ (rows_good text asked n held columns lines is) tells)
-
-pub remitted_none : (text : List ℕ) (asked : Remittance) (n : ℕ) (held : List (List (List ℕ))) (columns : RulingColumns) (lines behind : List Line) (before : List Move) → IsReadTable text asked n held columns lines
-    → before ≡ moves_before asked.after (lines_seen lines) → lines_placed behind ≡ placed_behind asked.after (lines_placed lines)
-    → remitting_cause columns before (lines_placed behind) ≡ None → remitted_cause text asked ≡ None
-remitted_none text asked n held columns lines behind before is before_is behind_is none =
-    remitted_is text asked n held columns lines behind before is before_is behind_is ∙ neither _ _ (rows_good text asked n held columns lines is) none
-
--- ---- sums
-
-summed_is : (text : List ℕ) (asked : Remittance) (n : ℕ) (held : List (List (List ℕ))) (columns : RulingColumns) (lines : List Line) (behind : List Ruling) (before moves : List Move) → IsReadTable text asked n held columns lines
+pub summed_is : (text : List ℕ) (asked : Remittance) (n : ℕ) (held : List (List (List ℕ))) (columns : RulingColumns) (lines : List Line) (behind : List Ruling) (before moves : List Move) → IsReadTable text asked n held columns lines
     → before ≡ moves_before asked.after (lines_seen lines) → behind ≡ rulings_behind asked.after (lines_seen lines) → moves ≡ map (λ (r : Ruling). r.moves) behind
-    → summed_cause text asked ≡ option_or (rows_cause asked (records_of text)) (settling_cause before moves asked.owed)
+    → settling_cause before moves asked.owed ≡ summed_cause text asked
 summed_is text asked n held columns lines behind before moves is before_is behind_is moves_are =
-    let rulings = rulings_are text asked n held columns lines is in
+    let rulings = ap rulings_at (placed_is text asked n held columns lines is) ∙ seen_is lines in
     let first = ap (moves_before asked.after) rulings ∙ sym before_is in
     let then = ap (moves_behind asked.after) rulings ∙ sym (moves_are ∙ ap (map (λ (r : Ruling). r.moves)) behind_is) in
-    λ j. option_or (rows_cause asked (records_of text)) (settling_cause (first j) (then j) asked.owed)
-
-pub summed_tells : (text : List ℕ) (asked : Remittance) (n : ℕ) (held : List (List (List ℕ))) (columns : RulingColumns) (lines : List Line) (behind : List Ruling) (before moves : List Move) (e : ReportFault) → IsReadTable text asked n held columns lines
-    → before ≡ moves_before asked.after (lines_seen lines) → behind ≡ rulings_behind asked.after (lines_seen lines) → moves ≡ map (λ (r : Ruling). r.moves) behind
-    → Tells e (settling_cause before moves asked.owed) → Tells e (summed_cause text asked)
-summed_tells text asked n held columns lines behind before moves e is before_is behind_is moves_are tells =
-    tells_same e _ _ (summed_is text asked n held columns lines behind before moves is before_is behind_is moves_are)
-    (tells_then e _ _ (rows_good text asked n held columns lines is) tells)
-
-pub summed_none : (text : List ℕ) (asked : Remittance) (n : ℕ) (held : List (List (List ℕ))) (columns : RulingColumns) (lines : List Line) (behind : List Ruling) (before moves : List Move) → IsReadTable text asked n held columns lines
-    → before ≡ moves_before asked.after (lines_seen lines) → behind ≡ rulings_behind asked.after (lines_seen lines) → moves ≡ map (λ (r : Ruling). r.moves) behind
-    → settling_cause before moves asked.owed ≡ None → summed_cause text asked ≡ None
-summed_none text asked n held columns lines behind before moves is before_is behind_is moves_are none =
-    summed_is text asked n held columns lines behind before moves is before_is behind_is moves_are ∙ neither _ _ (rows_good text asked n held columns lines is) none
+    sym (λ j. option_or (rows_good text asked n held columns lines is j) (settling_cause (first j) (then j) asked.owed))
 
 -- a settlement, of what was reversed in the period
 pub settled_tells : (before moves : List Move) (owed reversed : ℕ) (e : ReportFault) → reversed ≡ taken_back (before ++ moves) moves → period_cause before moves ≡ None → Tells e (over (reversed + owed)) → Tells e (settling_cause before moves owed)

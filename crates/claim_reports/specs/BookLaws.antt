@@ -10,7 +10,7 @@ use Rattle.claim_reports.specs.declared.totals.By.{By}
 use Rattle.claim_reports.specs.declared.totals.Sums.{Sums}
 use Rattle.claim_reports.specs.Daily.{daily_in, earlier, moves_of, moves_up_to, within}
 use Rattle.claim_reports.specs.Ledger.{paid_total, standing_total, taken_back}
-use Rattle.claim_reports.specs.Remitted.{auth_of}
+use Rattle.claim_reports.specs.Statement.{auth_of}
 use Rattle.claim_reports.specs.Shelves.{has}
 use Rattle.claim_reports.specs.Tables.{given_by}
 use Rattle.claim_reports.specs.Totals.{is_chosen, sums_of, sums_or_none, total_at}

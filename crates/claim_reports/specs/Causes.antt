@@ -117,6 +117,9 @@ abbrev pub bad_rows : ℕ → (List (List ℕ) → Option (List ℕ)) → ℕ �
 bad_rows table bad number [] = None
 bad_rows table bad number (row ∷ more) = option_or (bad_at table number (bad row)) (bad_rows table bad (number + 1) more)
 
--- what is wrong with a table of these records: with it, with its names, with its rows
+-- what is wrong with a table of these records: with its names, with its rows; before them with itself
+unfoldable pub columns_cause : ℕ → Option Cause → (List (List ℕ) → Option (List ℕ)) → List (List (List ℕ)) → Option Cause
+columns_cause table names bad records = option_or names (bad_rows table bad 1 (rows_of records))
+
 unfoldable pub table_cause : ℕ → Option Cause → (List (List ℕ) → Option (List ℕ)) → List (List (List ℕ)) → Option Cause
-table_cause table names bad records = option_or (uneven table records) (option_or names (bad_rows table bad 1 (rows_of records)))
+table_cause table names bad records = option_or (uneven table records) (columns_cause table names bad records)

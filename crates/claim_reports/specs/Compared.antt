@@ -189,23 +189,23 @@ compared_cause counted entries payments b =
 
 -- ---- what is told of them
 
--- a figure that is another: its name, and what both say
+-- a figure that is another: its name, and what both say; and none
 pub record Apart : Type 0 where
   pub name : List ℕ
-  pub counted : ℕ
-  pub paid : ℕ
+  pub counted : Option ℕ
+  pub paid : Option ℕ
 
-abbrev pub apart : List ℕ → ℕ → ℕ → Option Apart
-apart name counted paid = cond (counted == paid) None (Some (record { name = name; counted = counted; paid = paid }))
+abbrev pub alike : Apart
+alike = record { name = []; counted = None; paid = None }
+
+abbrev pub apart : List ℕ → ℕ → ℕ → Apart → Apart
+apart name counted paid others = cond (counted == paid) others (record { name = name; counted = Some counted; paid = Some paid })
 
 -- the first figure that is another: of the total, of the amounts that make it, and of the fill
-unfoldable pub first_apart : Figures → Figures → Option Apart
+unfoldable pub first_apart : Figures → Figures → Apart
 first_apart a b =
-    option_or (apart (codes "total") a.cents b.cents)
-    (option_or (apart (codes "cost") a.cost b.cost)
-    (option_or (apart (codes "fee") a.fee b.fee)
-    (option_or (apart (codes "copay") a.copay b.copay)
-    (option_or (apart (codes "prescription") a.prescription b.prescription) (apart (codes "fill") a.fill b.fill)))))
+    apart (codes "total") a.cents b.cents (apart (codes "cost") a.cost b.cost (apart (codes "fee") a.fee b.fee
+    (apart (codes "copay") a.copay b.copay (apart (codes "prescription") a.prescription b.prescription (apart (codes "fill") a.fill b.fill alike)))))
 
 -- the digits of an authorization: its number, filled with zeros to 16 digits
 abbrev pub auth_digits : ℕ → List ℕ
@@ -224,11 +224,7 @@ pub record Shown : Type 0 where
   pub counted : Option ℕ
   pub paid : Option ℕ
   pub on_its_way : Bool
-  pub apart : Option Apart
-
-abbrev pub apart_name : Option Apart → List ℕ
-apart_name None = []
-apart_name (Some a) = a.name
+  pub apart : Apart
 
 unfoldable pub shown_row : Shown → Row
 shown_row s =
@@ -237,17 +233,17 @@ shown_row s =
     ∷ record { name = codes "counted_cents"; value = number_or_nothing s.counted }
     ∷ record { name = codes "paid_cents"; value = number_or_nothing s.paid }
     ∷ record { name = codes "on_its_way"; value = Flag s.on_its_way }
-    ∷ record { name = codes "figure"; value = Text (apart_name s.apart) }
-    ∷ record { name = codes "counted_figure"; value = number_or_nothing (option_map (λ (a : Apart). a.counted) s.apart) }
-    ∷ record { name = codes "paid_figure"; value = number_or_nothing (option_map (λ (a : Apart). a.paid) s.apart) }
+    ∷ record { name = codes "figure"; value = Text s.apart.name }
+    ∷ record { name = codes "counted_figure"; value = number_or_nothing s.apart.counted }
+    ∷ record { name = codes "paid_figure"; value = number_or_nothing s.apart.paid }
     ∷ []
 
 -- what is shown of a finding
 abbrev pub shown : Finding → Shown
-shown (NotPaid auth f) = record { word = codes "not_paid"; auth = auth; counted = Some f.cents; paid = None; on_its_way = false; apart = None }
+shown (NotPaid auth f) = record { word = codes "not_paid"; auth = auth; counted = Some f.cents; paid = None; on_its_way = false; apart = alike }
 shown (Differs auth f g) = record { word = codes "differs"; auth = auth; counted = Some f.cents; paid = Some g.cents; on_its_way = false; apart = first_apart f g }
-shown (Reversed auth f is) = record { word = codes "reversed"; auth = auth; counted = Some f.cents; paid = None; on_its_way = is; apart = None }
-shown (NotCounted auth f is) = record { word = codes "not_counted"; auth = auth; counted = None; paid = Some f.cents; on_its_way = is; apart = None }
+shown (Reversed auth f is) = record { word = codes "reversed"; auth = auth; counted = Some f.cents; paid = None; on_its_way = is; apart = alike }
+shown (NotCounted auth f is) = record { word = codes "not_counted"; auth = auth; counted = None; paid = Some f.cents; on_its_way = is; apart = alike }
 
 -- a row for each finding
 abbrev pub finding_rows : List Finding → List ℕ

@@ -1,22 +1,19 @@
 -- What a payer of several books sends a pharmacy for the rulings of some days, as tables.
-use Rattle.std.specs.Prelude.{◌≡◌, ℕ, ◌+◌, ◌&&◌, ◌++◌, Bool, false, if◌then◌else◌, List, [], ◌∷◌, Option, Some, None, codes, filter, is_some, map, min, nat_lt, option_map, unwrap_or}
+use Rattle.std.specs.Prelude.{◌≡◌, ℕ, ◌&&◌, ◌++◌, Bool, false, if◌then◌else◌, List, [], ◌∷◌, Option, Some, None, codes, filter, is_some, map, nat_lt, option_map, unwrap_or}
 use Rattle.std.specs.Option.{option_flatten, option_or}
 use Rattle.std.specs.List.{flat_map}
-use Rattle.table_text.specs.Members.{Row, Number, Text, number_or_nothing}
-use Rattle.table_text.specs.Rows.{head_text, csv_row}
+use Rattle.table_text.specs.Members.{Number, Text, number_or_nothing}
+use Rattle.table_text.specs.Rows.{head_text}
 use Rattle.claim_reports.specs.declared.daily.DailyColumns.{DailyColumns}
 use Rattle.claim_reports.specs.declared.daily.DailyRemittance.{DailyRemittance}
 use Rattle.claim_reports.specs.declared.daily.DailyRuling.{DailyRuling}
 use Rattle.claim_reports.specs.declared.ledger.Move.{Move}
-use Rattle.claim_reports.specs.declared.ledger.Period.{Period}
 use Rattle.claim_reports.specs.declared.naming.Name.TheVariants as name
-use Rattle.claim_reports.specs.declared.settling.Settled.{Settled}
 use Rattle.claim_reports.specs.Causes.{Cause, bad_if, bad_number, column_in, missing, records_of, table_cause}
-use Rattle.claim_reports.specs.Digits.{filled}
-use Rattle.claim_reports.specs.Ledger.{IsPeriod, back_cents, period_cause}
-use Rattle.claim_reports.specs.Remitted.{auth_of, below_zero, cents_of, kind_of, settling_cause}
+use Rattle.claim_reports.specs.Ledger.{back_cents, period_cause}
 use Rattle.claim_reports.specs.Rulings.{move_to, moved_bad, ruling_columns_in, ruling_columns_missing}
 use Rattle.claim_reports.specs.Shelves.{books_text, has, is_in}
+use Rattle.claim_reports.specs.Statement.{IsSums, Title, line_names, line_told, numbers_bad, numbers_of, settling_cause}
 use Rattle.claim_reports.specs.Tables.{AreGiven, given_by, number_in, rows_of, ◌>>=◌}
 use Rattle.claim_reports.specs.Totals.{is_from, is_to}
 
@@ -30,11 +27,9 @@ daily_columns_in records = record { rulings = ruling_columns_in records; ruled_o
 abbrev pub values_of : DailyColumns → ℕ → Move → List (List ℕ) → Option DailyRuling
 values_of c payer moves row = do
   ruled_on ← number_in c.ruled_on.place row
-  number ← number_in c.rulings.number.place row
-  transaction ← number_in c.rulings.transaction.place row
-  prescription ← number_in c.rulings.prescription.place row
+  numbers ← numbers_of c.rulings row
   service ← number_in c.rulings.day.place row
-  Some (record { payer = payer; ruled_on = ruled_on; number = number; transaction = transaction; prescription = prescription; service = service; moves = moves })
+  Some (record { payer = payer; ruled_on = ruled_on; numbers = numbers; service = service; moves = moves })
 
 -- where it moved some
 abbrev pub if_moved : DailyColumns → ℕ → List (List ℕ) → Option Move → Option (Option DailyRuling)
@@ -82,29 +77,10 @@ within asked rulings = filter (is_within asked) rulings
 
 -- ---- a row for each ruling of these days
 
-abbrev pub daily_names : List (List ℕ)
-daily_names =
-    codes "payer" ∷ codes "pharmacy" ∷ codes "ruled_on" ∷ codes "number" ∷ codes "transaction" ∷ codes "kind"
-    ∷ codes "authorization" ∷ codes "prescription" ∷ codes "date_of_service" ∷ codes "cents" ∷ []
-
--- a ruling with the digits of its authorization, and with what it takes back, where it is a reversal
-unfoldable pub daily_row : ℕ → DailyRuling → List ℕ → List ℕ → Row
-daily_row pharmacy r auth back =
-    record { name = codes "payer"; value = Number r.payer }
-    ∷ record { name = codes "pharmacy"; value = Number pharmacy }
-    ∷ record { name = codes "ruled_on"; value = Number r.ruled_on }
-    ∷ record { name = codes "number"; value = Number r.number }
-    ∷ record { name = codes "transaction"; value = Number r.transaction }
-    ∷ record { name = codes "kind"; value = Text (kind_of r.moves) }
-    ∷ record { name = codes "authorization"; value = Text auth }
-    ∷ record { name = codes "prescription"; value = Number r.prescription }
-    ∷ record { name = codes "date_of_service"; value = Number r.service }
-    ∷ record { name = codes "cents"; value = cents_of back r.moves }
-    ∷ []
-
 -- the line of a ruling among these moves: a reversal takes back what was paid under its authorization
 abbrev pub daily_line : ℕ → List Move → DailyRuling → List ℕ
-daily_line pharmacy all r = csv_row (daily_row pharmacy r (filled 16 (auth_of r.moves)) (below_zero (back_cents all r.moves)))
+daily_line pharmacy all r =
+    line_told r.payer pharmacy (record { name = codes "ruled_on"; value = Number r.ruled_on }) r.numbers r.moves (Number r.service) (back_cents all r.moves)
 
 abbrev pub daily_lines : ℕ → List Move → List DailyRuling → List ℕ
 daily_lines pharmacy all rulings = flat_map (daily_line pharmacy all) rulings
@@ -117,41 +93,23 @@ moves_up_to asked rulings = earlier asked rulings ++ moves_of (within asked ruli
 pub record IsDailyLines (table : List ℕ) (asked : DailyRemittance) (text : List ℕ) : Type 0 where
   pub rulings : List DailyRuling
   pub read : AreDaily asked table rulings
-  pub told : text ≡ head_text daily_names ++ daily_lines asked.pharmacy (moves_up_to asked rulings) (within asked rulings)
+  pub told : text ≡ head_text (line_names (codes "ruled_on")) ++ daily_lines asked.pharmacy (moves_up_to asked rulings) (within asked rulings)
 
 -- ---- the sums of these days
 
-abbrev pub daily_sum_names : List (List ℕ)
-daily_sum_names =
-    codes "payers" ∷ codes "pharmacy" ∷ codes "from" ∷ codes "to" ∷ codes "standing_before_cents" ∷ codes "paid_cents" ∷ codes "reversed_cents"
-    ∷ codes "standing_after_cents" ∷ codes "owed_before_cents" ∷ codes "check_cents" ∷ codes "owed_after_cents" ∷ []
+abbrev pub days_title : DailyRemittance → Title
+days_title asked = record {
+  whose = record { name = codes "payers"; value = Text (books_text asked.books) };
+  pharmacy = asked.pharmacy;
+  first = record { name = codes "from"; value = number_or_nothing asked.from };
+  last = record { name = codes "to"; value = number_or_nothing asked.to };
+}
 
-unfoldable pub daily_sums_row : List ℕ → DailyRemittance → Period → Settled → Row
-daily_sums_row payers asked period settled =
-    record { name = codes "payers"; value = Text payers }
-    ∷ record { name = codes "pharmacy"; value = Number asked.pharmacy }
-    ∷ record { name = codes "from"; value = number_or_nothing asked.from }
-    ∷ record { name = codes "to"; value = number_or_nothing asked.to }
-    ∷ record { name = codes "standing_before_cents"; value = Number period.begin }
-    ∷ record { name = codes "paid_cents"; value = Number period.moved.paid }
-    ∷ record { name = codes "reversed_cents"; value = Number period.moved.reversed }
-    ∷ record { name = codes "standing_after_cents"; value = Number period.end }
-    ∷ record { name = codes "owed_before_cents"; value = Number asked.owed }
-    ∷ record { name = codes "check_cents"; value = Number settled.check }
-    ∷ record { name = codes "owed_after_cents"; value = Number settled.owed }
-    ∷ []
-
--- a text is the sums of these days over all the books: what stood before them, what was paid and taken back in them, what stands after them, and what is
--- sent for it and owed
+-- a text is the sums of these days over all the books
 pub record IsDailySums (table : List ℕ) (asked : DailyRemittance) (text : List ℕ) : Type 0 where
   pub rulings : List DailyRuling
   pub read : AreDaily asked table rulings
-  pub period : Period
-  pub is : IsPeriod (earlier asked rulings) (moves_of (within asked rulings)) period
-  pub settled : Settled
-  pub whole : settled.check + (period.moved.reversed + asked.owed) ≡ period.moved.paid + settled.owed
-  pub one : min settled.check settled.owed ≡ 0
-  pub told : text ≡ head_text daily_sum_names ++ csv_row (daily_sums_row (books_text asked.books) asked period settled)
+  pub sums : IsSums (days_title asked) (earlier asked rulings) (moves_of (within asked rulings)) asked.owed text
 
 -- ---- what is wrong with them
 
@@ -161,9 +119,7 @@ daily_missing table records = option_or (ruling_columns_missing table records) (
 
 -- the first bad value of a ruling
 unfoldable pub values_bad : DailyColumns → List (List ℕ) → Option (List ℕ)
-values_bad c row =
-    option_or (bad_number c.ruled_on row) (option_or (bad_number c.rulings.number row) (option_or (bad_number c.rulings.transaction row)
-    (option_or (bad_number c.rulings.prescription row) (bad_number c.rulings.day row))))
+values_bad c row = option_or (bad_number c.ruled_on row) (option_or (numbers_bad c.rulings row) (bad_number c.rulings.day row))
 
 abbrev pub is_moving : DailyColumns → DailyRemittance → List (List ℕ) → Bool
 is_moving c asked row = is_some (option_flatten (move_to c.rulings asked.pharmacy row))
@@ -189,7 +145,7 @@ daily_lines_cause table asked =
     let rulings = daily_of asked (records_of table) in
     option_or (daily_table_cause asked (records_of table)) (period_cause (earlier asked rulings) (moves_of (within asked rulings)))
 
--- why there are no sums: what is wrong with the table; else with its rulings; else what was reversed and what was owed are too large
+-- why there are no sums: what is wrong with the table; else with its rulings or their sums
 abbrev pub daily_sums_cause : List ℕ → DailyRemittance → Option Cause
 daily_sums_cause table asked =
     let rulings = daily_of asked (records_of table) in

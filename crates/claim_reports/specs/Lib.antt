@@ -17,7 +17,7 @@ pub mod Received
 pub mod Rulings
 pub mod RulingsSeen
 pub mod Remitted
-pub mod NumbersSeen
+pub mod Statement
 pub mod Daily
 pub mod BookLaws
 pub mod Reporting

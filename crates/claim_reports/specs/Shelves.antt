@@ -37,12 +37,9 @@ one_of (s ∷ t ∷ more) = None
 
 -- ---- how a text names them
 
--- the places of the first comma and of the first hyphen
-abbrev pub first_comma : List ℕ → Option ℕ
-first_comma text = position (λ (byte : ℕ). byte == 44) text
-
-abbrev pub first_dash : List ℕ → Option ℕ
-first_dash text = position (λ (byte : ℕ). byte == 45) text
+-- the place of the first byte like one
+abbrev pub first_of : ℕ → List ℕ → Option ℕ
+first_of like text = position (λ (byte : ℕ). byte == like) text
 
 -- the parts of a text between its commas
 abbrev pub onto : ℕ → List (List ℕ) → List (List ℕ)
@@ -68,7 +65,7 @@ span_at part None = option_map (λ (number : ℕ). record { first = number; last
 span_at part (Some place) = range_in (take place part) (drop (place + 1) part)
 
 abbrev pub span_in : List ℕ → Option Span
-span_in part = span_at part (first_dash part)
+span_in part = span_at part (first_of 45 part)
 
 -- each is before a number
 abbrev pub is_behind : List Span → ℕ → Bool

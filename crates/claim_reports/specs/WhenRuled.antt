@@ -8,7 +8,7 @@ use Rattle.claim_reports.specs.declared.ruled_rows.Named.{Named}
 use Rattle.claim_reports.specs.declared.ruled_rows.RowColumns.{RowColumns}
 use Rattle.claim_reports.specs.declared.ruled_rows.CallColumns.{CallColumns}
 use Rattle.claim_reports.specs.declared.naming.Name.TheVariants as name
-use Rattle.claim_reports.specs.Causes.{Cause, bad_if, bad_number, bad_optional, bad_rows, column_in, missing, present, records_of, table_cause, uneven}
+use Rattle.claim_reports.specs.Causes.{Cause, bad_if, bad_number, bad_optional, column_in, columns_cause, missing, present, records_of, table_cause, uneven}
 use Rattle.claim_reports.specs.Digits.{ShowsTime}
 use Rattle.claim_reports.specs.Ruled.{ruled_at}
 use Rattle.claim_reports.specs.Tables.{AreGiven, AreRecordsOf, rows_of, column_of, cell, number_in, optional_in, given_by, ◌>>=◌}
@@ -61,7 +61,7 @@ taken_in c row = if bytes_eq (cell c.carries.place row) (codes "request") then t
 
 -- the requests of the rows of a table, one of each; and the requests that payers took, by a table of calls
 abbrev pub AreRequests : List (List (List ℕ)) → List Request → Type 0
-AreRequests records requests = (c : RowColumns) × (c ≡ row_columns_in records) × (given_by (λ row. option_map Some (request_in c row)) (rows_of records) ≡ Some requests)
+AreRequests records requests = given_by (λ row. option_map Some (request_in (row_columns_in records) row)) (rows_of records) ≡ Some requests
 
 abbrev pub AreTaken : List ℕ → List Taken → Type 0
 AreTaken table taken = AreGiven call_columns_in taken_in table taken
@@ -94,8 +94,8 @@ unfoldable pub taken_bad : CallColumns → List (List ℕ) → Option (List ℕ)
 taken_bad c row = bad_if (bytes_eq (cell c.carries.place row) (codes "request")) (taken_by_bad c (payer_named (cell c.node.place row)) row)
 
 -- what is wrong with the columns and the rows of a table of rows, and with a table of calls
-unfoldable pub requests_cause : ℕ → List (List (List ℕ)) → Option Cause
-requests_cause table records = option_or (row_columns_missing table records) (bad_rows table (request_bad (row_columns_in records)) 1 (rows_of records))
+abbrev pub requests_cause : List (List (List ℕ)) → Option Cause
+requests_cause records = columns_cause 1 (row_columns_missing 1 records) (request_bad (row_columns_in records)) records
 
 abbrev pub calls_cause : List (List (List ℕ)) → Option Cause
 calls_cause records = table_cause 2 (call_columns_missing 2 records) (taken_bad (call_columns_in records)) records
@@ -105,7 +105,7 @@ calls_cause records = table_cause 2 (call_columns_missing 2 records) (taken_bad 
 abbrev pub ruled_cause : List ℕ → List ℕ → Option Cause
 ruled_cause rows calls =
     option_or (uneven 1 (records_of rows)) (option_or (present 1 (records_of rows) name.RuledAt) (option_or (present 1 (records_of rows) name.RuledOn)
-    (option_or (requests_cause 1 (records_of rows)) (calls_cause (records_of calls)))))
+    (option_or (requests_cause (records_of rows)) (calls_cause (records_of calls)))))
 
 -- ---- what is told of them
 

@@ -2,7 +2,7 @@
 
 ghost use Rattle.std.specs.Prelude.{◌≡◌, ◌<◌, ◌≤◌, ◌+◌, ◌∷◌, ◌++◌, [], IfOk, IfSome, OnOk, drop, length, take};
 ghost use Rattle.std.specs.List.{flat_map};
-ghost use Rattle.claim_reports.specs.Shelves.{behind_comma, books_in, books_text, contains, first_comma, first_dash, has, is_behind, more_of, one_of, span_in, span_text, with_part};
+ghost use Rattle.claim_reports.specs.Shelves.{behind_comma, books_in, books_text, contains, first_of, has, is_behind, more_of, one_of, span_in, span_text, with_part};
 
 use input_text::{put_decimal, read_decimal};
 use std::alloc::{AllocError, Global};
@@ -57,7 +57,7 @@ impl Span {
     fn read(part: &[u8]) -> Option<Span>
         ensures { result ≡ span_in part.now }
     {
-        let Some(place) = dash(part) else {
+        let Some(place) = first_of(part, b'-') else {
             let number = read_decimal(part, DIGITS)?;
             return Some(Span {
                 first: number,
@@ -101,7 +101,7 @@ impl Books {
     {
         let mut books = Some(Books::new());
         let mut rest = text;
-        while let Some(place) = comma(rest) {
+        while let Some(place) = first_of(rest, b',') {
             books = more_of(books, front_of(rest, place));
             rest = back_of(rest, place);
         }
@@ -225,18 +225,10 @@ fn back_of(text: &[u8], place: usize) -> &[u8]
     &text[place + 1..]
 }
 
-/// The place of the first comma.
-fn comma(text: &[u8]) -> Option<usize>
-    ensures place { result ≡ first_comma text.now }
+/// The place of the first byte like this.
+fn first_of(text: &[u8], like: u8) -> Option<usize>
+    ensures place { result ≡ first_of like text.now }
     ensures bound { IfSome result (λ place. place < length text.now) }
 {
-    text.iter().position(|byte| *byte == b',')
-}
-
-/// The place of the first hyphen.
-fn dash(text: &[u8]) -> Option<usize>
-    ensures place { result ≡ first_dash text.now }
-    ensures bound { IfSome result (λ place. place < length text.now) }
-{
-    text.iter().position(|byte| *byte == b'-')
+    text.iter().position(|byte| *byte == like)
 }

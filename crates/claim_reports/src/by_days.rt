@@ -1,23 +1,22 @@
 //! The remittance that a payer of several books sends a pharmacy for the rulings of some days.
 
-ghost use Rattle.std.specs.Prelude.{◌≡◌, ◌++◌, List, IfOk, OnOk};
-ghost use Rattle.table_text.specs.Adding.{Adds, AddsRow};
+ghost use Rattle.std.specs.Prelude.{◌≡◌, ◌++◌, List, codes, IfOk, OnOk};
+ghost use Rattle.table_text.specs.Adding.{Adds};
 ghost use Rattle.table_text.specs.Rows.{head_text};
-ghost use Rattle.table_text.specs.declared.layout.Style.TheVariants.{Csv};
 ghost use Rattle.claim_reports.specs.declared.ledger.Move.{Move};
 ghost use Rattle.claim_reports.specs.Causes.{RefusesFor};
-ghost use Rattle.claim_reports.specs.Daily.{IsDailyLines, IsDailySums, daily_line, daily_lines, daily_lines_cause, daily_names, daily_row, daily_sum_names, daily_sums_cause, daily_sums_row};
-ghost use Rattle.claim_reports.specs.Ledger.{IsLedgerOf};
+ghost use Rattle.claim_reports.specs.Daily.{IsDailyLines, IsDailySums, daily_line, daily_lines, daily_lines_cause, daily_sums_cause, moves_of};
+ghost use Rattle.claim_reports.specs.Ledger.{IsLedgerOf, period_cause};
+ghost use Rattle.claim_reports.specs.Statement.{line_names};
 
 use crate::daily::{DailyColumns, DailyRemittance, DailyRuling, moves_of};
 use crate::fault::ReportFault;
-use crate::ledger::{Ledger, Period, ledger_of, period_of};
+use crate::ledger::{Ledger, Move, ledger_of};
 use crate::numbers::{auth_text, taken_back};
 use crate::reading::rows_in;
-use crate::remitting::{auth_of, cents_field, kind_of};
-use crate::settling::{Settled, settle};
+use crate::statement::{LineRow, Title, auth_of, put_line_names, sums_text};
 use std::alloc::{AllocError, Global};
-use table_text::{Field, Style, put_head, put_row};
+use table_text::{Cell, Field};
 
 /// A row for each payment and each reversal of the days that the books ruled, as CSV; the cents of a reversal are below zero.
 ///
@@ -37,12 +36,7 @@ pub fn daily_lines(
     let rulings = rows_in::<DailyColumns>(alloc, 1, rows, asked)?;
     let before = asked.earlier(alloc, rulings.as_slice())?;
     let kept = asked.within(alloc, rulings.as_slice())?;
-    let moves = moves_of(alloc, kept.as_slice())?;
-    let ledger = ledger_of(alloc, before.as_slice(), moves.as_slice())?;
-    let mut out = Vec::new(alloc);
-    put_daily_names(&mut out)?;
-    put_daily_lines(&mut out, asked.pharmacy, &ledger, kept.as_slice())?;
-    Ok(out)
+    lines_text(alloc, asked.pharmacy, before.as_slice(), kept.as_slice())
 }
 
 /// The sums of the days over all the books, as CSV in one row: what stood, what was paid and reversed, what stands, what is
@@ -65,33 +59,45 @@ pub fn daily_sums(
     let before = asked.earlier(alloc, rulings.as_slice())?;
     let kept = asked.within(alloc, rulings.as_slice())?;
     let moves = moves_of(alloc, kept.as_slice())?;
-    let period = period_of(alloc, before.as_slice(), moves.as_slice())?;
-    let settled = settle(period.moved, asked.owed)?;
     let payers = asked.books.text(alloc)?;
+    let title = Title {
+        whose: Field::text(b"payers", payers.as_slice()),
+        pharmacy: asked.pharmacy,
+        first: Field::number_or_nothing(b"from", asked.from),
+        last: Field::number_or_nothing(b"to", asked.to),
+    };
+    sums_text(
+        alloc,
+        &title,
+        before.as_slice(),
+        moves.as_slice(),
+        asked.owed,
+    )
+}
+
+/// The names of the columns, and a row for each of some rulings, after others that moved this.
+fn lines_text(
+    alloc: Global,
+    pharmacy: u64,
+    before: &[Move],
+    rulings: &[DailyRuling],
+) -> Result<Vec<u8>, ReportFault>
+    ensures made { IfOk result (λ text. text.items ≡ head_text (line_names (codes "ruled_on"))
+        ++ daily_lines pharmacy (before.now ++ moves_of rulings.now) rulings.now) }
+    ensures refuses { RefusesFor result (period_cause before.now (moves_of rulings.now)) }
+{
+    let moves = moves_of(alloc, rulings)?;
+    let ledger = ledger_of(alloc, before, moves.as_slice())?;
     let mut out = Vec::new(alloc);
-    put_daily_sum_names(&mut out)?;
-    put_daily_sums(&mut out, payers.as_slice(), asked, period, settled)?;
+    put_line_names(&mut out, b"ruled_on")?;
+    for ruling in rulings {
+        put_line(&mut out, pharmacy, &ledger, ruling)?;
+    }
     Ok(out)
 }
 
-/// Appends a row for each ruling, of which the ledger has what reversals take back.
-fn put_daily_lines(
-    out: &mut Vec<u8>,
-    pharmacy: u64,
-    ledger: &Ledger,
-    rulings: &[DailyRuling],
-) -> Result<(), AllocError>
-    ensures { (all : List Move) → IsLedgerOf all ledger.now
-        → OnOk result (out.new.items ≡ out.old.items ++ daily_lines pharmacy all rulings.now) }
-{
-    for ruling in rulings {
-        put_daily_line(out, pharmacy, ledger, ruling)?;
-    }
-    Ok(())
-}
-
-/// Appends the row of a ruling.
-fn put_daily_line(
+/// Appends the row of a ruling, of which the ledger has what a reversal takes back.
+fn put_line(
     out: &mut Vec<u8>,
     pharmacy: u64,
     ledger: &Ledger,
@@ -100,103 +106,17 @@ fn put_daily_line(
     ensures { (all : List Move) → IsLedgerOf all ledger.now
         → OnOk result (Adds out.old out.new (daily_line pharmacy all ruling.now)) }
 {
-    let digits = auth_text(*out.allocator(), auth_of(ruling.moves))?;
+    let auth = auth_text(*out.allocator(), auth_of(ruling.moves))?;
     let back = taken_back(*out.allocator(), ledger.back_cents(ruling.moves))?;
-    put_daily_fields(out, pharmacy, ruling, digits.as_slice(), back.as_slice())
-}
-
-/// Appends the fields of a ruling.
-#[tactic(auto, unfolding(crate::specs::Daily::daily_row))]
-fn put_daily_fields(
-    out: &mut Vec<u8>,
-    pharmacy: u64,
-    ruling: &DailyRuling,
-    digits: &[u8],
-    back: &[u8],
-) -> Result<(), AllocError>
-    ensures { OnOk result (AddsRow Csv out.old out.new (daily_row pharmacy ruling.now digits.now back.now)) }
-{
-    let fields = [
-        Field::number(b"payer", ruling.payer),
-        Field::number(b"pharmacy", pharmacy),
-        Field::number(b"ruled_on", ruling.ruled_on),
-        Field::number(b"number", ruling.number),
-        Field::number(b"transaction", ruling.transaction),
-        Field::word(b"kind", kind_of(ruling.moves)),
-        Field::text(b"authorization", digits),
-        Field::number(b"prescription", ruling.prescription),
-        Field::number(b"date_of_service", ruling.service),
-        cents_field(ruling.moves, back),
-    ];
-    put_row(out, Style::Csv, &fields)
-}
-
-/// Appends the sums of days.
-#[tactic(auto, unfolding(crate::specs::Daily::daily_sums_row))]
-fn put_daily_sums(
-    out: &mut Vec<u8>,
-    payers: &[u8],
-    asked: &DailyRemittance,
-    period: Period,
-    settled: Settled,
-) -> Result<(), AllocError>
-    ensures { OnOk result (AddsRow Csv out.old out.new (daily_sums_row payers.now asked.now period settled)) }
-{
-    let fields = [
-        Field::text(b"payers", payers),
-        Field::number(b"pharmacy", asked.pharmacy),
-        Field::number_or_nothing(b"from", asked.from),
-        Field::number_or_nothing(b"to", asked.to),
-        Field::number(b"standing_before_cents", period.begin),
-        Field::number(b"paid_cents", period.moved.paid),
-        Field::number(b"reversed_cents", period.moved.reversed),
-        Field::number(b"standing_after_cents", period.end),
-        Field::number(b"owed_before_cents", asked.owed),
-        Field::number(b"check_cents", settled.check),
-        Field::number(b"owed_after_cents", settled.owed),
-    ];
-    put_row(out, Style::Csv, &fields)
-}
-
-/// Appends the names of the columns of rulings.
-fn put_daily_names(out: &mut Vec<u8>) -> Result<(), AllocError>
-    ensures { OnOk result (Adds out.old out.new (head_text daily_names)) }
-{
-    put_head(
-        out,
-        &[
-            b"payer",
-            b"pharmacy",
-            b"ruled_on",
-            b"number",
-            b"transaction",
-            b"kind",
-            b"authorization",
-            b"prescription",
-            b"date_of_service",
-            b"cents",
-        ],
-    )
-}
-
-/// Appends the names of the columns of the sums.
-fn put_daily_sum_names(out: &mut Vec<u8>) -> Result<(), AllocError>
-    ensures { OnOk result (Adds out.old out.new (head_text daily_sum_names)) }
-{
-    put_head(
-        out,
-        &[
-            b"payers",
-            b"pharmacy",
-            b"from",
-            b"to",
-            b"standing_before_cents",
-            b"paid_cents",
-            b"reversed_cents",
-            b"standing_after_cents",
-            b"owed_before_cents",
-            b"check_cents",
-            b"owed_after_cents",
-        ],
-    )
+    let row = LineRow {
+        payer: ruling.payer,
+        pharmacy,
+        at: Field::number(b"ruled_on", ruling.ruled_on),
+        numbers: ruling.numbers,
+        moves: ruling.moves,
+        auth: auth.as_slice(),
+        service: Cell::Number(ruling.service),
+        back: back.as_slice(),
+    };
+    row.put(out)
 }

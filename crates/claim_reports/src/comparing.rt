@@ -1,12 +1,12 @@
 //! What a pharmacy counts beside what a payer paid, by their tables.
 
-ghost use Rattle.std.specs.Prelude.{◌≡◌, ◌&&◌, ◌++◌, map, option_map, IfOk, OnOk};
+ghost use Rattle.std.specs.Prelude.{◌≡◌, ◌&&◌, ◌++◌, Some, map, IfOk, OnOk};
 ghost use Rattle.std.specs.List.{list_all};
 ghost use Rattle.table_text.specs.Adding.{Adds, AddsRow};
 ghost use Rattle.table_text.specs.Rows.{head_text};
 ghost use Rattle.table_text.specs.declared.layout.Style.TheVariants.{Csv};
 ghost use Rattle.claim_reports.specs.Causes.{RefusesFor};
-ghost use Rattle.claim_reports.specs.Compared.{compared_cause, first_apart, apart_name, finding_names, shown_row, shown, finding_rows, is_on_its_way, IsCompared};
+ghost use Rattle.claim_reports.specs.Compared.{compared_cause, alike, first_apart, finding_names, shown_row, shown, finding_rows, is_on_its_way, IsCompared};
 ghost use Rattle.claim_reports.specs.Showing.{apart_seen, shown_seen};
 
 use crate::beside::{Figures, Finding, compare};
@@ -18,12 +18,12 @@ use crate::told::Told;
 use std::alloc::{AllocError, Global};
 use table_text::{Field, Style, put_head, put_row};
 
-/// A figure that is another on both sides.
+/// A figure that is another on both sides; without a name where none is.
 #[derive(Clone, Copy)]
 struct Apart {
     name: &'static [u8],
-    counted: u64,
-    paid: u64,
+    counted: Option<u64>,
+    paid: Option<u64>,
 }
 
 /// What the row of a finding says.
@@ -34,7 +34,7 @@ struct Shown {
     counted: Option<u64>,
     paid: Option<u64>,
     on_its_way: bool,
-    apart: Option<Apart>,
+    apart: Apart,
 }
 
 /// Compares the pharmacy's tables `counted` and `entries` with the payer's table `payments`: the fill and each amount. It is good
@@ -98,7 +98,7 @@ fn told_of(finding: &Finding) -> Shown
             counted: Some(counted.cents),
             paid: None,
             on_its_way: false,
-            apart: None,
+            apart: Apart::none(),
         },
         Finding::Differs(auth, counted, paid) => Shown {
             word: b"differs",
@@ -114,7 +114,7 @@ fn told_of(finding: &Finding) -> Shown
             counted: Some(counted.cents),
             paid: None,
             on_its_way,
-            apart: None,
+            apart: Apart::none(),
         },
         Finding::NotCounted(auth, paid, on_its_way) => Shown {
             word: b"not_counted",
@@ -122,78 +122,57 @@ fn told_of(finding: &Finding) -> Shown
             counted: None,
             paid: Some(paid.cents),
             on_its_way,
-            apart: None,
+            apart: Apart::none(),
         },
     }
 }
 
 /// The first figure that is another on both sides: of the total, of the amounts that make it, and of the fill.
 #[tactic(auto, unfolding(crate::specs::Compared::first_apart))]
-fn first_apart(counted: Figures, paid: Figures) -> Option<Apart>
-    ensures { option_map apart_seen result ≡ first_apart counted paid }
+fn first_apart(counted: Figures, paid: Figures) -> Apart
+    ensures { apart_seen result ≡ first_apart counted paid }
 {
     if counted.cents != paid.cents {
-        return Some(Apart::of(b"total", counted.cents, paid.cents));
+        return Apart::of(b"total", counted.cents, paid.cents);
     }
     if counted.cost != paid.cost {
-        return Some(Apart::of(b"cost", counted.cost, paid.cost));
+        return Apart::of(b"cost", counted.cost, paid.cost);
     }
     if counted.fee != paid.fee {
-        return Some(Apart::of(b"fee", counted.fee, paid.fee));
+        return Apart::of(b"fee", counted.fee, paid.fee);
     }
     if counted.copay != paid.copay {
-        return Some(Apart::of(b"copay", counted.copay, paid.copay));
+        return Apart::of(b"copay", counted.copay, paid.copay);
     }
     if counted.prescription != paid.prescription {
-        return Some(Apart::of(b"prescription", counted.prescription, paid.prescription));
+        return Apart::of(b"prescription", counted.prescription, paid.prescription);
     }
     if counted.fill != paid.fill {
-        return Some(Apart::of(b"fill", counted.fill, paid.fill));
+        return Apart::of(b"fill", counted.fill, paid.fill);
     }
-    None
+    Apart::none()
 }
 
 impl Apart {
     /// A figure of this name.
     fn of(name: &'static [u8], counted: u64, paid: u64) -> Apart
-        ensures { apart_seen result ≡ record { name = name.now; counted = counted; paid = paid } }
+        ensures { apart_seen result ≡ record { name = name.now; counted = Some counted; paid = Some paid } }
     {
         Apart {
             name,
-            counted,
-            paid,
-        }
-    }
-}
-
-impl Shown {
-    /// The name of the figure that differs, where one does.
-    fn figure(&self) -> &'static [u8]
-        ensures { result.now ≡ apart_name (option_map apart_seen self.now.apart) }
-    {
-        match self.apart {
-            Some(apart) => apart.name,
-            None => b"",
+            counted: Some(counted),
+            paid: Some(paid),
         }
     }
 
-    /// What the pharmacy counts of it.
-    fn counted_figure(&self) -> Option<u64>
-        ensures { result ≡ option_map (λ a. a.counted) (option_map apart_seen self.now.apart) }
+    /// No figure.
+    fn none() -> Apart
+        ensures { apart_seen result ≡ alike }
     {
-        match self.apart {
-            Some(apart) => Some(apart.counted),
-            None => None,
-        }
-    }
-
-    /// What the payer paid of it.
-    fn paid_figure(&self) -> Option<u64>
-        ensures { result ≡ option_map (λ a. a.paid) (option_map apart_seen self.now.apart) }
-    {
-        match self.apart {
-            Some(apart) => Some(apart.paid),
-            None => None,
+        Apart {
+            name: b"",
+            counted: None,
+            paid: None,
         }
     }
 }
@@ -209,9 +188,9 @@ fn put_shown(alloc: Global, out: &mut Vec<u8>, shown: &Shown) -> Result<(), Allo
         Field::number_or_nothing(b"counted_cents", shown.counted),
         Field::number_or_nothing(b"paid_cents", shown.paid),
         Field::flag(b"on_its_way", shown.on_its_way),
-        Field::word(b"figure", shown.figure()),
-        Field::number_or_nothing(b"counted_figure", shown.counted_figure()),
-        Field::number_or_nothing(b"paid_figure", shown.paid_figure()),
+        Field::word(b"figure", shown.apart.name),
+        Field::number_or_nothing(b"counted_figure", shown.apart.counted),
+        Field::number_or_nothing(b"paid_figure", shown.apart.paid),
     ];
     put_row(out, Style::Csv, &fields)
 }

@@ -12,6 +12,7 @@ use crate::ledger::Move;
 use crate::naming::Name;
 use crate::reading::Columns;
 use crate::rulings::RulingColumns;
+use crate::statement::Numbers;
 use crate::table::{Column, Table, TableRow};
 use std::alloc::{AllocError, Global};
 
@@ -42,9 +43,7 @@ pub(crate) struct DailyColumns {
 pub(crate) struct DailyRuling {
     pub(crate) payer: u64,
     pub(crate) ruled_on: u64,
-    pub(crate) number: u64,
-    pub(crate) transaction: u64,
-    pub(crate) prescription: u64,
+    pub(crate) numbers: Numbers,
     pub(crate) service: u64,
     pub(crate) moves: Move,
 }
@@ -54,9 +53,9 @@ impl Columns for DailyColumns {
 
     type Whose = DailyRemittance;
 
-    ghost columns_in = { λ records. daily_columns_in records };
+    ghost columns_in = { λ _ records. daily_columns_in records };
 
-    ghost missing = { λ table records. daily_missing table records };
+    ghost missing = { λ _ table records. daily_missing table records };
 
     ghost row_in = { λ columns asked row. daily_in columns asked row };
 
@@ -64,7 +63,7 @@ impl Columns for DailyColumns {
 
     /// Those of a table.
     #[tactic(auto, unfolding(crate::specs::Daily::daily_missing))]
-    fn of(table: &Table) -> Result<DailyColumns, ReportFault> {
+    fn of(table: &Table, _whose: &DailyRemittance) -> Result<DailyColumns, ReportFault> {
         Ok(DailyColumns {
             rulings: RulingColumns::of(table)?,
             ruled_on: table.column(Name::RuledOn)?,
@@ -123,9 +122,7 @@ impl DailyColumns {
         Ok(DailyRuling {
             payer,
             ruled_on: row.number(self.ruled_on)?,
-            number: row.number(self.rulings.number)?,
-            transaction: row.number(self.rulings.transaction)?,
-            prescription: row.number(self.rulings.prescription)?,
+            numbers: Numbers::of(row, &self.rulings)?,
             service: row.number(self.rulings.day)?,
             moves,
         })
@@ -141,13 +138,11 @@ impl DailyRemittance {
     ) -> Result<Vec<Move>, AllocError>
         ensures { IfOk result (λ moves. moves.items ≡ earlier self.now rulings.now) }
     {
-        let mut moves = Vec::new(alloc);
-        for ruling in rulings {
-            if self.is_before(ruling) {
-                moves.push(ruling.moves)?;
-            }
-        }
-        Ok(moves)
+        rulings
+            .iter()
+            .filter(|ruling| self.is_before(*ruling))
+            .map(|ruling| ruling.moves)
+            .collect(alloc)
     }
 
     /// The rulings of its days.
@@ -189,9 +184,5 @@ impl DailyRemittance {
 pub(crate) fn moves_of(alloc: Global, rulings: &[DailyRuling]) -> Result<Vec<Move>, AllocError>
     ensures { IfOk result (λ moves. moves.items ≡ moves_of rulings.now) }
 {
-    let mut moves = Vec::new(alloc);
-    for ruling in rulings {
-        moves.push(ruling.moves)?;
-    }
-    Ok(moves)
+    rulings.iter().map(|ruling| ruling.moves).collect(alloc)
 }

@@ -24,6 +24,7 @@ mod ruled_rows;
 mod rulings;
 mod settling;
 mod sides;
+mod statement;
 mod table;
 mod told;
 mod totalling;

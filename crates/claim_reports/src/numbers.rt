@@ -3,7 +3,7 @@
 ghost use Rattle.std.specs.Prelude.{◌≡◌, decimal, IfOk};
 ghost use Rattle.claim_reports.specs.Compared.{auth_digits};
 ghost use Rattle.claim_reports.specs.Digits.{filled};
-ghost use Rattle.claim_reports.specs.Remitted.{below_zero};
+ghost use Rattle.claim_reports.specs.Statement.{below_zero};
 
 use input_text::put_decimal;
 use std::alloc::{AllocError, Global};

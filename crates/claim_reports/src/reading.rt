@@ -2,7 +2,7 @@
 
 ghost use Rattle.std.specs.Prelude.{◌≡◌, ◌++◌, [], Some, map, unwrap_or, IfOk, OnOk};
 ghost use Rattle.csv.specs.Records.{fields_of};
-ghost use Rattle.claim_reports.specs.Causes.{RefusesFor, bad_at, records_of, table_cause};
+ghost use Rattle.claim_reports.specs.Causes.{RefusesFor, bad_at, columns_cause, records_of, table_cause};
 ghost use Rattle.claim_reports.specs.Tables.{AreGiven, given, given_by, rows_of};
 
 use crate::fault::ReportFault;
@@ -21,10 +21,10 @@ pub(crate) trait Columns: Copy + Sized {
     type Whose: Drop;
 
     /// The columns of records.
-    ghost columns_in: { List (List (List ℕ)) → Self };
+    ghost columns_in: { Self.Whose → List (List (List ℕ)) → Self };
 
     /// The first column that the records of a table of this number lack.
-    ghost missing: { ℕ → List (List (List ℕ)) → Option Cause };
+    ghost missing: { Self.Whose → ℕ → List (List (List ℕ)) → Option Cause };
 
     /// What a row gives, where it gives something; none where it cannot be read.
     ghost row_in: { Self → Self.Whose → List (List ℕ) → Option (Option Self.Row) };
@@ -33,9 +33,9 @@ pub(crate) trait Columns: Copy + Sized {
     ghost bad: { Self.Whose → Self → List (List ℕ) → Option (List ℕ) };
 
     /// Those of a table.
-    fn of(table: &Table) -> Result<Self, ReportFault>
-        ensures are { IfOk result (λ columns. columns ≡ columns_in (map fields_of table.now.records.items)) }
-        ensures refuses { RefusesFor result (missing table.now.number (map fields_of table.now.records.items)) };
+    fn of(table: &Table, whose: &Self::Whose) -> Result<Self, ReportFault>
+        ensures are { IfOk result (λ columns. columns ≡ columns_in whose.now (map fields_of table.now.records.items)) }
+        ensures refuses { RefusesFor result (missing whose.now table.now.number (map fields_of table.now.records.items)) };
 
     /// What a row gives.
     fn row(
@@ -59,14 +59,35 @@ pub(crate) fn rows_in<C: Columns>(
     text: &[u8],
     whose: &C::Whose,
 ) -> Result<Vec<C::Row>, ReportFault>
-    ensures read { IfOk result (λ rows. AreGiven C.columns_in (λ columns. C.row_in columns whose.now) text.now rows.items) }
-    ensures all { IfOk result (λ rows. unwrap_or (given_by (C.row_in (C.columns_in (records_of text.now)) whose.now)
+    ensures read { IfOk result (λ rows.
+        AreGiven (C.columns_in whose.now) (λ columns. C.row_in columns whose.now) text.now rows.items) }
+    ensures all { IfOk result (λ rows. unwrap_or (given_by (C.row_in (C.columns_in whose.now (records_of text.now)) whose.now)
         (rows_of (records_of text.now))) [] ≡ rows.items) }
-    ensures refuses { RefusesFor result (table_cause number (C.missing number (records_of text.now))
-        (C.bad whose.now (C.columns_in (records_of text.now))) (records_of text.now)) }
+    ensures refuses { RefusesFor result (table_cause number (C.missing whose.now number (records_of text.now))
+        (C.bad whose.now (C.columns_in whose.now (records_of text.now))) (records_of text.now)) }
 {
     let table = Table::read(alloc, number, text)?;
-    let columns = C::of(&table)?;
+    rows_of::<C>(alloc, &table, whose)
+}
+
+/// What the rows of a table give.
+///
+/// # Errors
+/// The first fault of its columns and its rows; want of memory.
+pub(crate) fn rows_of<C: Columns>(
+    alloc: Global,
+    table: &Table,
+    whose: &C::Whose,
+) -> Result<Vec<C::Row>, ReportFault>
+    ensures read { IfOk result (λ rows.
+        given_by (C.row_in (C.columns_in whose.now (map fields_of table.now.records.items)) whose.now)
+        (rows_of (map fields_of table.now.records.items)) ≡ Some rows.items) }
+    ensures refuses { RefusesFor result (columns_cause table.now.number
+        (C.missing whose.now table.now.number (map fields_of table.now.records.items))
+        (C.bad whose.now (C.columns_in whose.now (map fields_of table.now.records.items)))
+        (map fields_of table.now.records.items)) }
+{
+    let columns = C::of(table, whose)?;
     let mut rows = Vec::new(alloc);
     for (place, record) in table.rows().iter().enumerate() {
         let one = columns.row(alloc, &table.row(place, record), whose)?;

@@ -78,6 +78,7 @@ fn put_findings(
 }
 
 /// Appends the row of what is found of a number, where something is.
+#[tactic(auto, unfolding(crate::specs::Received::finding_row))]
 fn put_finding(
     out: &mut Vec<u8>,
     found: Option<&'static [u8]>,
@@ -85,17 +86,9 @@ fn put_finding(
 ) -> Result<(), AllocError>
     ensures { OnOk result (Adds out.old out.new (row_if (option_map (λ word. word.now) found.entry) number)) }
 {
-    match found {
-        Some(word) => put_word(out, word, number),
-        None => Ok(()),
-    }
-}
-
-/// Appends the row of this word about a number.
-#[tactic(auto, unfolding(crate::specs::Received::finding_row))]
-fn put_word(out: &mut Vec<u8>, word: &'static [u8], number: u64) -> Result<(), AllocError>
-    ensures { OnOk result (AddsRow Csv out.old out.new (finding_row word.now number)) }
-{
+    let Some(word) = found else {
+        return Ok(());
+    };
     let fields = [
         Field::word(b"finding", word),
         Field::number(b"number", number),

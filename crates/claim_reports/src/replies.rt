@@ -137,9 +137,9 @@ impl Columns for PacketColumns {
 
     type Whose = Addressee;
 
-    ghost columns_in = { λ records. packet_columns_in records };
+    ghost columns_in = { λ _ records. packet_columns_in records };
 
-    ghost missing = { λ table records. packets_missing table records };
+    ghost missing = { λ _ table records. packets_missing table records };
 
     ghost row_in = { λ columns to row. sent_in columns to.node to.pharmacy row };
 
@@ -147,7 +147,7 @@ impl Columns for PacketColumns {
 
     /// Those of a table.
     #[tactic(auto, unfolding(crate::specs::Received::packets_missing))]
-    fn of(table: &Table) -> Result<PacketColumns, ReportFault> {
+    fn of(table: &Table, _whose: &Addressee) -> Result<PacketColumns, ReportFault> {
         Ok(PacketColumns {
             to: table.column(Name::To)?,
             carries: table.column(Name::Carries)?,
@@ -201,9 +201,9 @@ impl Columns for ReceiptColumns {
 
     type Whose = u64;
 
-    ghost columns_in = { λ records. receipt_columns_in records };
+    ghost columns_in = { λ _ records. receipt_columns_in records };
 
-    ghost missing = { λ table records. receipts_missing table records };
+    ghost missing = { λ _ table records. receipts_missing table records };
 
     ghost row_in = { λ columns pharmacy row. receipt_in columns pharmacy row };
 
@@ -211,7 +211,7 @@ impl Columns for ReceiptColumns {
 
     /// Those of a table.
     #[tactic(auto, unfolding(crate::specs::Received::receipts_missing))]
-    fn of(table: &Table) -> Result<ReceiptColumns, ReportFault> {
+    fn of(table: &Table, _whose: &u64) -> Result<ReceiptColumns, ReportFault> {
         Ok(ReceiptColumns {
             pharmacy: table.column(Name::Pharmacy)?,
             number: table.column(Name::Number)?,

@@ -1,17 +1,17 @@
 //! A table of rows or payments of payers, with when each was ruled.
 
-ghost use Rattle.std.specs.Prelude.{◌≡◌, ◌++◌, None, Some, get_or, map, IfErr, IfOk, OnOk};
+ghost use Rattle.std.specs.Prelude.{◌≡◌, ◌++◌, None, Some, get_or, map, option_map, IfErr, IfOk, OnOk};
 ghost use Rattle.csv.specs.Records.{fields_of};
 ghost use Rattle.claim_reports.specs.declared.fault.ReportFault.TheVariants.{OutOfMemory};
 ghost use Rattle.claim_reports.specs.Digits.{time_text, day_text};
 ghost use Rattle.claim_reports.specs.Wider.{wider_text};
-ghost use Rattle.claim_reports.specs.Causes.{RefusesFor, bad_at, records_of};
-ghost use Rattle.claim_reports.specs.WhenRuled.{named_in, row_columns_in, call_columns_in, named_missing, row_columns_missing, call_columns_missing, named_bad, request_bad, taken_by_bad, taken_bad, requests_cause, calls_cause, ruled_cause, request_to, request_in, payer_named, taken_by, taken_in, AreRequests, AreTaken, AddsRuled, AddsTimed, IsTimed, IsRuledTable};
+ghost use Rattle.claim_reports.specs.Causes.{RefusesFor, bad_at};
+ghost use Rattle.claim_reports.specs.WhenRuled.{named_in, row_columns_in, call_columns_in, named_missing, row_columns_missing, call_columns_missing, named_bad, request_bad, taken_by_bad, taken_bad, ruled_cause, request_to, request_in, payer_named, taken_by, taken_in, AddsRuled, AddsTimed, IsTimed, IsRuledTable};
 
 use crate::clock::{day_text, shown_at, time_text};
 use crate::fault::ReportFault;
 use crate::naming::Name;
-use crate::reading::{Columns, rows_in};
+use crate::reading::{Columns, rows_in, rows_of};
 use crate::ruled::{Request, Taken, ruled_times};
 use crate::table::{Column, Table, TableRow};
 use crate::wider::put_wider;
@@ -58,24 +58,10 @@ pub fn ruled_table(alloc: Global, rows: &[u8], calls: &[u8]) -> Result<Vec<u8>, 
     let table = Table::read(alloc, 1, rows)?;
     table.lacks(Name::RuledAt)?;
     table.lacks(Name::RuledOn)?;
-    let requests = requests_of(alloc, &table)?;
+    let requests = rows_of::<RowColumns>(alloc, &table, &())?;
     let taken = rows_in::<CallColumns>(alloc, 2, calls, &())?;
     let times = ruled_times(alloc, taken.as_slice(), requests.as_slice())?;
     with_times(alloc, table.records(), times.as_slice())
-}
-
-/// The request of each row of a table.
-fn requests_of(alloc: Global, table: &Table) -> Result<Vec<Request>, ReportFault>
-    ensures read { IfOk result (λ requests. AreRequests (map fields_of table.now.records.items) requests.items) }
-    ensures refuses { RefusesFor result (requests_cause table.now.number (map fields_of table.now.records.items)) }
-{
-    let columns = RowColumns::of(table)?;
-    let mut requests = Vec::new(alloc);
-    for (place, record) in table.rows().iter().enumerate() {
-        let row = table.row(place, record);
-        requests.push(columns.request(&row)?)?;
-    }
-    Ok(requests)
 }
 
 /// The number of the payer that a node is, where it is one.
@@ -116,13 +102,22 @@ impl Named {
     }
 }
 
-impl RowColumns {
+impl Columns for RowColumns {
+    type Row = Request;
+
+    type Whose = ();
+
+    ghost columns_in = { λ _ records. row_columns_in records };
+
+    ghost missing = { λ _ table records. row_columns_missing table records };
+
+    ghost row_in = { λ columns _ row. option_map Some (request_in columns row) };
+
+    ghost bad = { λ _ columns row. request_bad columns row };
+
     /// Those of a table.
     #[tactic(auto, unfolding(crate::specs::WhenRuled::row_columns_missing))]
-    fn of(table: &Table) -> Result<RowColumns, ReportFault>
-        ensures are { IfOk result (λ columns. columns ≡ row_columns_in (map fields_of table.now.records.items)) }
-        ensures refuses { RefusesFor result (row_columns_missing table.now.number (map fields_of table.now.records.items)) }
-    {
+    fn of(table: &Table, _whose: &()) -> Result<RowColumns, ReportFault> {
         Ok(RowColumns {
             payer: table.column(Name::Payer)?,
             named: Named::of(table)?,
@@ -131,13 +126,14 @@ impl RowColumns {
 
     /// The request that a row is about.
     #[tactic(auto, unfolding(crate::specs::WhenRuled::request_bad))]
-    fn request(&self, row: &TableRow<'_>) -> Result<Request, ReportFault>
-        ensures read { IfOk result (λ request. request_in self.now (fields_of row.now.record.now) ≡ Some request) }
-        ensures refuses { RefusesFor result
-            (bad_at row.now.table row.now.number (request_bad self.now (fields_of row.now.record.now))) }
-    {
+    fn row(
+        &self,
+        _alloc: Global,
+        row: &TableRow<'_>,
+        _whose: &(),
+    ) -> Result<Option<Request>, ReportFault> {
         let payer = row.number(self.payer)?;
-        self.named.request(row, payer)
+        Ok(Some(self.named.request(row, payer)?))
     }
 }
 
@@ -146,9 +142,9 @@ impl Columns for CallColumns {
 
     type Whose = ();
 
-    ghost columns_in = { λ records. call_columns_in records };
+    ghost columns_in = { λ _ records. call_columns_in records };
 
-    ghost missing = { λ table records. call_columns_missing table records };
+    ghost missing = { λ _ table records. call_columns_missing table records };
 
     ghost row_in = { λ columns _ row. taken_in columns row };
 
@@ -156,7 +152,7 @@ impl Columns for CallColumns {
 
     /// Those of a table.
     #[tactic(auto, unfolding(crate::specs::WhenRuled::call_columns_missing))]
-    fn of(table: &Table) -> Result<CallColumns, ReportFault> {
+    fn of(table: &Table, _whose: &()) -> Result<CallColumns, ReportFault> {
         Ok(CallColumns {
             node: table.column(Name::Node)?,
             time: table.column(Name::Time)?,

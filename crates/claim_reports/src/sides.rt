@@ -133,9 +133,9 @@ impl Columns for CountedColumns {
 
     type Whose = Between;
 
-    ghost columns_in = { λ records. counted_columns_in records };
+    ghost columns_in = { λ _ records. counted_columns_in records };
 
-    ghost missing = { λ table records. counted_missing table records };
+    ghost missing = { λ _ table records. counted_missing table records };
 
     ghost row_in = { λ columns between row. counted_in columns between row };
 
@@ -143,7 +143,7 @@ impl Columns for CountedColumns {
 
     /// Those of a table.
     #[tactic(auto, unfolding(crate::specs::Compared::counted_missing))]
-    fn of(table: &Table) -> Result<CountedColumns, ReportFault> {
+    fn of(table: &Table, _whose: &Between) -> Result<CountedColumns, ReportFault> {
         Ok(CountedColumns {
             parties: Parties::of(table)?,
             auth: table.column(Name::Authorization)?,
@@ -186,9 +186,9 @@ impl Columns for EntryColumns {
 
     type Whose = u64;
 
-    ghost columns_in = { λ records. entry_columns_in records };
+    ghost columns_in = { λ _ records. entry_columns_in records };
 
-    ghost missing = { λ table records. entry_missing table records };
+    ghost missing = { λ _ table records. entry_missing table records };
 
     ghost row_in = { λ columns pharmacy row. entry_in columns pharmacy row };
 
@@ -196,7 +196,7 @@ impl Columns for EntryColumns {
 
     /// Those of a table.
     #[tactic(auto, unfolding(crate::specs::Compared::entry_missing))]
-    fn of(table: &Table) -> Result<EntryColumns, ReportFault> {
+    fn of(table: &Table, _whose: &u64) -> Result<EntryColumns, ReportFault> {
         Ok(EntryColumns {
             pharmacy: table.column(Name::Pharmacy)?,
             number: table.column(Name::Number)?,
@@ -239,9 +239,9 @@ impl Columns for MadeColumns {
 
     type Whose = Between;
 
-    ghost columns_in = { λ records. made_columns_in records };
+    ghost columns_in = { λ _ records. made_columns_in records };
 
-    ghost missing = { λ table records. made_missing table records };
+    ghost missing = { λ _ table records. made_missing table records };
 
     ghost row_in = { λ columns between row. made_in columns between row };
 
@@ -249,7 +249,7 @@ impl Columns for MadeColumns {
 
     /// Those of a table.
     #[tactic(auto, unfolding(crate::specs::Compared::made_missing))]
-    fn of(table: &Table) -> Result<MadeColumns, ReportFault> {
+    fn of(table: &Table, _whose: &Between) -> Result<MadeColumns, ReportFault> {
         Ok(MadeColumns {
             parties: Parties::of(table)?,
             auth: table.column(Name::Authorization)?,

@@ -1,12 +1,12 @@
 //! Totals of a table of payments, as a table.
 
-ghost use Rattle.std.specs.Prelude.{◌≡◌, ◌++◌, map, Some, None, IfOk, OnOk, IfErr};
+ghost use Rattle.std.specs.Prelude.{◌≡◌, ◌++◌, Some, None, option_map, IfOk, OnOk, IfErr};
 ghost use Rattle.std.specs.BTreeMap.{IsOrdered};
 ghost use Rattle.csv.specs.Records.{fields_of};
 ghost use Rattle.claim_reports.specs.Totals.{key_cmp};
-ghost use Rattle.claim_reports.specs.Causes.{BadValue as IsBad, RefusesFor, bad_at, cause_of};
+ghost use Rattle.claim_reports.specs.Causes.{BadValue as IsBad, RefusesFor, cause_of};
 ghost use Rattle.claim_reports.specs.Names.{name_text};
-ghost use Rattle.claim_reports.specs.Totalled.{day_name, day_column, by_name, columns_in, columns_missing, bad_day, paid_bad, paid_cause, payments_in, totals_cause, day_in, paid_in, ArePaid, all_names, all_row, is_all, keyed_names, keyed_row, total_names, total_row, totals_text, IsTotalled};
+ghost use Rattle.claim_reports.specs.Totalled.{day_name, day_column, by_name, columns_in, columns_missing, bad_day, paid_bad, totals_cause, day_in, paid_in, is_all, total_names, total_row, totals_text, IsTotalled};
 ghost use Rattle.table_text.specs.Adding.{Adds, AddsRow};
 ghost use Rattle.table_text.specs.Rows.{head_text};
 ghost use Rattle.table_text.specs.declared.layout.Style.TheVariants.{Csv};
@@ -14,6 +14,7 @@ ghost use Rattle.table_text.specs.declared.layout.Style.TheVariants.{Csv};
 use crate::choice::{Choice, Paid, chosen};
 use crate::fault::ReportFault;
 use crate::naming::Name;
+use crate::reading::{Columns, rows_in};
 use crate::table::{Column, Table, TableRow};
 use crate::totals::{By, Sums, totals_of};
 use std::alloc::{AllocError, Global};
@@ -31,7 +32,7 @@ pub enum Days {
 
 /// The columns of a table of payments that totals are made of.
 #[derive(Clone, Copy)]
-struct Columns {
+struct PaidColumns {
     payer: Column,
     pharmacy: Column,
     day: Column,
@@ -56,8 +57,7 @@ pub fn totals_table(
     // It is refused for the first fault of the table, for sums that are too large, or for want of memory, and for nothing else.
     ensures refuses { RefusesFor result (totals_cause payments.now by days choice.now) }
 {
-    let table = Table::read(alloc, 1, payments)?;
-    let paid = paid_in(alloc, &table, days)?;
+    let paid = rows_in::<PaidColumns>(alloc, 1, payments, &days)?;
     let kept = chosen(alloc, choice, paid.as_slice())?;
     let totals = totals_of(alloc, by, kept.as_slice())?;
     let mut out = Vec::new(alloc);
@@ -65,28 +65,22 @@ pub fn totals_table(
     Ok(out)
 }
 
-/// The payments of a table.
-fn paid_in(alloc: Global, table: &Table, days: Days) -> Result<Vec<Paid>, ReportFault>
-    ensures read { IfOk result (λ paid. ArePaid days (map fields_of table.now.records.items) paid.items) }
-    ensures all { IfOk result (λ paid. payments_in days (map fields_of table.now.records.items) ≡ paid.items) }
-    ensures refuses { RefusesFor result (paid_cause table.now.number days (map fields_of table.now.records.items)) }
-{
-    let columns = Columns::of(table, days)?;
-    let mut paid = Vec::new(alloc);
-    for (place, record) in table.rows().iter().enumerate() {
-        let row = table.row(place, record);
-        paid.push(columns.paid(&row, days)?)?;
-    }
-    Ok(paid)
-}
+impl Columns for PaidColumns {
+    type Row = Paid;
 
-impl Columns {
+    type Whose = Days;
+
+    ghost columns_in = { λ days records. columns_in days records };
+
+    ghost missing = { λ days table records. columns_missing table days records };
+
+    ghost row_in = { λ columns days row. option_map Some (paid_in days columns row) };
+
+    ghost bad = { λ days columns row. paid_bad days columns row };
+
     /// Those of a table.
-    fn of(table: &Table, days: Days) -> Result<Columns, ReportFault>
-        ensures are { IfOk result (λ columns. columns ≡ columns_in days (map fields_of table.now.records.items)) }
-        ensures refuses { RefusesFor result (columns_missing table.now.number days (map fields_of table.now.records.items)) }
-    {
-        Ok(Columns {
+    fn of(table: &Table, days: &Days) -> Result<PaidColumns, ReportFault> {
+        Ok(PaidColumns {
             payer: table.column(Name::Payer)?,
             pharmacy: table.column(Name::Pharmacy)?,
             day: table.column(days.column())?,
@@ -97,18 +91,19 @@ impl Columns {
 
     /// The payment of a row.
     #[tactic(auto, unfolding(crate::specs::Totalled::paid_in, crate::specs::Totalled::paid_bad))]
-    fn paid(&self, row: &TableRow<'_>, days: Days) -> Result<Paid, ReportFault>
-        ensures read { IfOk result (λ paid. paid_in days self.now (fields_of row.now.record.now) ≡ Some paid) }
-        ensures refuses { RefusesFor result
-            (bad_at row.now.table row.now.number (paid_bad days self.now (fields_of row.now.record.now))) }
-    {
-        Ok(Paid {
+    fn row(
+        &self,
+        _alloc: Global,
+        row: &TableRow<'_>,
+        days: &Days,
+    ) -> Result<Option<Paid>, ReportFault> {
+        Ok(Some(Paid {
             payer: row.number(self.payer)?,
             pharmacy: row.number(self.pharmacy)?,
             day: days.day(row, self.day)?,
             cents: row.number(self.cents)?,
             reversed: row.word(self.state, b"standing", b"reversed")?,
-        })
+        }))
     }
 }
 
@@ -122,95 +117,42 @@ fn put_totals(
     ensures text { OnOk result (out.new.items ≡ out.old.items ++ totals_text by days totals.now.entries) }
     ensures ordered { OnOk result (IsOrdered key_cmp totals.now) }
 {
-    put_total_names(out, by, days)?;
+    let name = by.name(days).as_bytes();
+    put_names(out, by, name)?;
     for (number, sums) in totals {
-        put_total(out, by, days, *number, sums)?;
+        put_total(out, by, name, *number, sums)?;
     }
     Ok(())
 }
 
 /// Appends the names of the columns; those of all payments together have no number.
-fn put_total_names(out: &mut Vec<u8>, by: By, days: Days) -> Result<(), AllocError>
-    ensures { OnOk result (Adds out.old out.new (head_text (total_names by days))) }
+fn put_names(out: &mut Vec<u8>, by: By, name: &'static [u8]) -> Result<(), AllocError>
+    ensures { OnOk result (Adds out.old out.new (head_text (total_names by name.now))) }
 {
+    let names: [&[u8]; 5] = [
+        name,
+        b"payments",
+        b"cents",
+        b"reversed_payments",
+        b"reversed_cents",
+    ];
     if by.is_all() {
-        put_all_names(out)
+        put_head(out, &names[1..])
     } else {
-        put_keyed_names(out, by.name(days).as_bytes())
+        put_head(out, &names)
     }
 }
 
-/// Appends the names of the columns of the sums of all payments together.
-fn put_all_names(out: &mut Vec<u8>) -> Result<(), AllocError>
-    ensures { OnOk result (Adds out.old out.new (head_text all_names)) }
-{
-    put_head(
-        out,
-        &[
-            b"payments",
-            b"cents",
-            b"reversed_payments",
-            b"reversed_cents",
-        ],
-    )
-}
-
-/// Appends the names of the columns of the sums of numbers, which stand under a name.
-fn put_keyed_names(out: &mut Vec<u8>, name: &'static [u8]) -> Result<(), AllocError>
-    ensures { OnOk result (Adds out.old out.new (head_text (keyed_names name.now))) }
-{
-    put_head(
-        out,
-        &[
-            name,
-            b"payments",
-            b"cents",
-            b"reversed_payments",
-            b"reversed_cents",
-        ],
-    )
-}
-
-/// Appends the sums of a number; those of all payments together have none.
+/// Appends the sums of a number, which stands under a name; those of all payments together have none.
+#[tactic(auto, unfolding(crate::specs::Totalled::sums_row))]
 fn put_total(
     out: &mut Vec<u8>,
     by: By,
-    days: Days,
-    number: Option<u64>,
-    sums: &Sums,
-) -> Result<(), AllocError>
-    ensures { OnOk result (AddsRow Csv out.old out.new (total_row by days number sums.now)) }
-{
-    if by.is_all() {
-        put_all(out, sums)
-    } else {
-        put_keyed(out, by.name(days).as_bytes(), number, sums)
-    }
-}
-
-/// Appends the sums of all payments together.
-#[tactic(auto, unfolding(crate::specs::Totalled::all_row))]
-fn put_all(out: &mut Vec<u8>, sums: &Sums) -> Result<(), AllocError>
-    ensures { OnOk result (AddsRow Csv out.old out.new (all_row sums.now)) }
-{
-    let fields = [
-        Field::number(b"payments", sums.count),
-        Field::number(b"cents", sums.cents),
-        Field::number(b"reversed_payments", sums.reversed_count),
-        Field::number(b"reversed_cents", sums.reversed_cents),
-    ];
-    put_row(out, Style::Csv, &fields)
-}
-
-/// Appends the sums of a number, which stands under a name.
-#[tactic(auto, unfolding(crate::specs::Totalled::keyed_row))]
-fn put_keyed(
-    out: &mut Vec<u8>,
     name: &'static [u8],
     number: Option<u64>,
     sums: &Sums,
 ) -> Result<(), AllocError>
-    ensures { OnOk result (AddsRow Csv out.old out.new (keyed_row name.now number sums.now)) }
+    ensures { OnOk result (AddsRow Csv out.old out.new (total_row by name.now number sums.now)) }
 {
     let fields = [
         Field::number_or_nothing(name, number),
@@ -219,7 +161,11 @@ fn put_keyed(
         Field::number(b"reversed_payments", sums.reversed_count),
         Field::number(b"reversed_cents", sums.reversed_cents),
     ];
-    put_row(out, Style::Csv, &fields)
+    if by.is_all() {
+        put_row(out, Style::Csv, &fields[1..])
+    } else {
+        put_row(out, Style::Csv, &fields)
+    }
 }
 
 impl By {

@@ -13,9 +13,6 @@ returns c =
       c.number_or_nothing-2.ensures,
       c.flag.ensures,
       c.word-2.ensures,
-      c.figure.ensures,
       c.number_or_nothing-3.ensures,
-      c.counted_figure.ensures,
       c.number_or_nothing-4.ensures,
-      c.paid_figure.ensures,
     ) at c.put_row.ensures

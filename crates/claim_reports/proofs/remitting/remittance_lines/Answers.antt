@@ -1,36 +1,23 @@
-use Rattle.std.proofs.Common.{map}
+use Rattle.std.proofs.Common.{ℕ, map}
+use Rattle.std.specs.Global.{Vec}
 use Rattle.csv.specs.Records.{fields_of}
 use Rattle.claim_reports.specs.RulingsSeen.{lines_seen}
 use Rattle.claim_reports.proofs.Remittances.{remitted_is}
-use Rattle.claim_reports.proofs.Telling.{passed}
-use Rattle.claim_reports.proofs.WrongRemittances.{remitted_none, remitted_tells}
+use Rattle.claim_reports.proofs.Telling.{refuses_same}
+use Rattle.claim_reports.proofs.WrongRemittances as wrong
 use Rattle.claim_reports.proofs.remitting.remittance_lines.Goals as goal
-
-pub returns-in_err-put_lines-clause-refuses : goal.returns-in_err-put_lines-clause-refuses
-returns-in_err-put_lines-clause-refuses c =
-    passed c.from_residual-in_err-put_lines.result _ _ c.from_residual-in_err-put_lines.ensures.1
-    (remitted_tells c.args.rows.now c.args.asked.now c.in_ok-table.table.number (map fields_of c.in_ok-table.table.records.items) c.in_ok-columns.columns c.in_ok-rulings.rulings.lines.items c.in_ok-lines.lines.items c.in_ok-before.before.items _
-    (record {
-      are = c.in_ok-table.ensures.all;
-      even = c.in_ok-table.ensures.refuses;
-      number = c.in_ok-table.ensures.number;
-      columns_are = c.in_ok-columns.ensures.are;
-      there = c.in_ok-columns.ensures.refuses;
-      good = c.in_ok-rulings.ensures.refuses;
-      placed = c.in_ok-rulings.ensures.placed;
-    }) (rw c.as_slice.ensures.value at c.in_ok-before.ensures) (rw c.as_slice-2.ensures.value at c.in_ok-lines.ensures.placed)
-    (rw (c.as_slice-3.ensures.value, c.as_slice-4.ensures.value) at c.in_err-put_lines.ensures.refuses))
 
 pub returns-clause-made : goal.returns-clause-made
 returns-clause-made c =
-    remitted_is c.args.rows.now _ c.args.asked.now (map fields_of c.in_ok-table.table.records.items) c.in_ok-columns.columns (lines_seen c.in_ok-rulings.rulings.lines.items) c.in_ok-rulings.rulings.up_to
+    remitted_is (λ (text : Vec ℕ). text.items) c.lines_text.result c.args.rows.now c.args.asked.now (map fields_of c.in_ok-table.table.records.items) c.in_ok-columns.columns (lines_seen c.in_ok-rulings.rulings.lines.items) c.in_ok-rulings.rulings.up_to
     c.in_ok-before.before.items (lines_seen c.in_ok-lines.lines.items) c.in_ok-table.ensures.read c.in_ok-columns.ensures.are c.in_ok-rulings.ensures.read
     (rw c.as_slice.ensures.value at c.in_ok-before.ensures) (rw c.as_slice-2.ensures.value at c.in_ok-lines.ensures.read)
-    (rw (c.as_slice-3.ensures.value, c.as_slice-4.ensures.value, c.in_ok-put_line_names.ensures, c.new-out.ensures.items) at c.in_ok-put_lines.ensures.adds)
+    (rw (c.as_slice-3.ensures.value, c.as_slice-4.ensures.value) at c.lines_text.ensures.made)
 
 pub returns-clause-refuses : goal.returns-clause-refuses
 returns-clause-refuses c =
-    remitted_none c.args.rows.now c.args.asked.now c.in_ok-table.table.number (map fields_of c.in_ok-table.table.records.items) c.in_ok-columns.columns c.in_ok-rulings.rulings.lines.items c.in_ok-lines.lines.items c.in_ok-before.before.items
+    refuses_same c.lines_text.result _ _
+    (wrong.remitted_is c.args.rows.now c.args.asked.now c.in_ok-table.table.number (map fields_of c.in_ok-table.table.records.items) c.in_ok-columns.columns c.in_ok-rulings.rulings.lines.items c.in_ok-lines.lines.items c.in_ok-before.before.items
     (record {
       are = c.in_ok-table.ensures.all;
       even = c.in_ok-table.ensures.refuses;
@@ -39,5 +26,5 @@ returns-clause-refuses c =
       there = c.in_ok-columns.ensures.refuses;
       good = c.in_ok-rulings.ensures.refuses;
       placed = c.in_ok-rulings.ensures.placed;
-    }) (rw c.as_slice.ensures.value at c.in_ok-before.ensures) (rw c.as_slice-2.ensures.value at c.in_ok-lines.ensures.placed)
-    (rw (c.as_slice-3.ensures.value, c.as_slice-4.ensures.value) at c.in_ok-put_lines.ensures.refuses)
+    }) (rw c.as_slice.ensures.value at c.in_ok-before.ensures) (rw c.as_slice-2.ensures.value at c.in_ok-lines.ensures.placed))
+    (rw (c.as_slice-3.ensures.value, c.as_slice-4.ensures.value) at c.lines_text.ensures.refuses)

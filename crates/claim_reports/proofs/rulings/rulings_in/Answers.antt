@@ -4,7 +4,7 @@ use Rattle.csv.specs.Records.{Row, fields_of}
 use Rattle.claim_reports.specs.Rulings.{placed_from, read_rows, rulings_bad}
 use Rattle.claim_reports.specs.RulingsSeen.{lines_placed, read_seen}
 use Rattle.claim_reports.proofs.Remittances.{reads_on, are_rulings}
-use Rattle.claim_reports.proofs.Telling.{passed}
+use Rattle.claim_reports.proofs.Telling.{passed, row_at}
 use Rattle.claim_reports.proofs.WrongRulings.{bad_here, good_end, good_more, placed_end, placed_more}
 use Rattle.claim_reports.proofs.rulings.rulings_in.Goals as goal
 
@@ -17,35 +17,17 @@ loop-place-preserved c =
       placed =
           placed_more {B = Row} fields_of c.args.table.now.number c.args.columns.now c.args.asked.now c.loop-place.rulings.up_to c.take_row.new.self.up_to c.loop-place.place _ _ c.rows-record-items.result.now c.row-row.result.record.now _ _
           (lines_placed c.loop-place.rulings.lines.items) (lines_placed c.take_row.new.self.lines.items)
-          (record {
-            lt = c.loop-place-test.true;
-            few = c.rows-record-items.ensures.few;
-            of = c.row-row.ensures.table;
-            at = c.row-row.ensures.number;
-            is = c.row-row.ensures.held ∙ c.record-item.is;
-          }) c.in_ok-take_row.ensures.placed c.in_ok-take_row.ensures.count c.loop-place.invariant.placed;
+          (row_at _ _ _ _ _ _ _ c.loop-place-test.true c.rows-record-items.ensures.few c.row-row.ensures.table c.row-row.ensures.number (c.row-row.ensures.held ∙ c.record-item.is)) c.in_ok-take_row.ensures.placed c.in_ok-take_row.ensures.count c.loop-place.invariant.placed;
       good =
           good_more {B = Row} fields_of c.args.table.now.number c.args.columns.now c.args.asked.now c.loop-place.rulings.up_to c.take_row.new.self.up_to c.loop-place.place _ _ c.rows-record-items.result.now c.row-row.result.record.now _ _
-          (record {
-            lt = c.loop-place-test.true;
-            few = c.rows-record-items.ensures.few;
-            of = c.row-row.ensures.table;
-            at = c.row-row.ensures.number;
-            is = c.row-row.ensures.held ∙ c.record-item.is;
-          }) c.in_ok-take_row.ensures.refuses c.in_ok-take_row.ensures.count c.loop-place.invariant.good;
+          (row_at _ _ _ _ _ _ _ c.loop-place-test.true c.rows-record-items.ensures.few c.row-row.ensures.table c.row-row.ensures.number (c.row-row.ensures.held ∙ c.record-item.is)) c.in_ok-take_row.ensures.refuses c.in_ok-take_row.ensures.count c.loop-place.invariant.good;
     }
 
 pub returns-in_err-take_row-clause-refuses : goal.returns-in_err-take_row-clause-refuses
 returns-in_err-take_row-clause-refuses c =
     passed c.from_residual.result _ _ c.from_residual.ensures.1
     (bad_here {B = Row} fields_of c.args.table.now.number c.args.columns.now c.args.asked.now c.loop-place.rulings.up_to c.loop-place.place _ _ c.rows-record-items.result.now c.row-row.result.record.now _ _ _
-    (record {
-      lt = c.loop-place-test.true;
-      few = c.rows-record-items.ensures.few;
-      of = c.row-row.ensures.table;
-      at = c.row-row.ensures.number;
-      is = c.row-row.ensures.held ∙ c.record-item.is;
-    }) c.in_err-take_row.ensures.refuses
+    (row_at _ _ _ _ _ _ _ c.loop-place-test.true c.rows-record-items.ensures.few c.row-row.ensures.table c.row-row.ensures.number (c.row-row.ensures.held ∙ c.record-item.is)) c.in_err-take_row.ensures.refuses
     (ap (rulings_bad c.args.table.now.number c.args.columns.now c.args.asked.now 0 1) (sym c.rows-record-items.ensures.are) ∙ c.loop-place.invariant.good))
 
 pub returns-clause-read : goal.returns-clause-read

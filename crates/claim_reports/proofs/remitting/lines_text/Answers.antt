@@ -1,15 +1,19 @@
 use Rattle.std.proofs.Common.{◌≡◌, ◌+◌, [], ap, arith, length}
 use Rattle.std.proofs.Math.ListN.{drop_of_length-le}
+use Rattle.std.specs.Prelude.{codes}
+use Rattle.table_text.specs.Rows.{head_text}
+use Rattle.claim_reports.specs.Statement.{line_names}
 use Rattle.claim_reports.specs.RulingsSeen.{line_seen, lines_seen}
 use Rattle.claim_reports.proofs.Remittances.{lines_none, lines_next, lines_end}
 use Rattle.claim_reports.proofs.Telling.{neither, passed, tells_then}
 use Rattle.claim_reports.proofs.WrongLines.{lines_begin, lines_fine, lines_good, move_wrong, row_wrong}
-use Rattle.claim_reports.proofs.remitting.put_lines.Goals as goal
+use Rattle.claim_reports.proofs.remitting.lines_text.Goals as goal
 
 pub loop-line-init : goal.loop-line-init
 loop-line-init c = record {
   lines =
-      lines_none c.args.columns.now c.args.asked.now c.args.before.now (lines_seen c.args.lines.now) c.args.out.now.items c.take_all.new.self (c.in_ok-take_all.ensures.takes [] c.new-ledger.ensures).is;
+      rw (c.in_ok-put_line_names.ensures, c.new-out.ensures.items)
+      (lines_none c.args.columns.now c.args.asked.now c.args.before.now (lines_seen c.args.lines.now) (head_text (line_names (codes "ruling"))) c.take_all.new.self (c.in_ok-take_all.ensures.takes [] c.new-ledger.ensures).is);
   number = omega arith;
   good = lines_begin c.args.columns.now c.args.before.now c.args.lines.now;
 }
@@ -22,7 +26,7 @@ loop-line-preserved c =
     let last : length c.args.before.now + c.loop-line.line-index + 1 + 1 ≡ length c.args.before.now + (c.loop-line.line-index + 1) + 1 = omega arith in
     record {
       lines =
-          lines_next line_seen c.args.columns.now c.args.asked.now c.args.before.now c.args.lines.now c.loop-line.line-index _ c.args.out.now.items c.loop-line.out.items c.put_line.new.out.items
+          lines_next line_seen c.args.columns.now c.args.asked.now c.args.before.now c.args.lines.now c.loop-line.line-index _ (head_text (line_names (codes "ruling"))) c.loop-line.out.items c.put_line.new.out.items
           c.loop-line.ledger c.take_all-in-loop-line.new.self c.in_ok-moved.moved lt
           (rw c.line-item.is at (c.in_ok-moved.ensures.takes _ c.loop-line.invariant.lines.is)) (rw c.line-item.is at c.in_ok-put_line.ensures.adds) c.loop-line.invariant.lines;
       number = let one = c.saturating_add-passed.ensures in omega arith;
@@ -52,9 +56,9 @@ returns-in_err-put_line-clause-refuses c =
     (row_wrong c.args.columns.now c.args.before.now (length c.args.before.now + c.loop-line.line-index + 1) c.loop-line.line-index c.args.lines.now _ _ _ lt
     (rw (c.line-item.is, number) at (c.in_ok-moved.ensures.refuses _ c.loop-line.invariant.lines.is (omega arith))) (rw c.line-item.is at c.in_err-put_line.ensures.refuses) c.loop-line.invariant.good))
 
-pub returns-clause-adds : goal.returns-clause-adds
-returns-clause-adds c =
-    lines_end c.args.columns.now c.args.asked.now c.args.before.now _ (lines_seen c.args.lines.now) _ c.args.out.now.items c.loop-line.out.items c.loop-line.ledger
+pub returns-clause-made : goal.returns-clause-made
+returns-clause-made c =
+    lines_end c.args.columns.now c.args.asked.now c.args.before.now _ (lines_seen c.args.lines.now) _ (head_text (line_names (codes "ruling"))) c.loop-line.out.items c.loop-line.ledger
     (ap lines_seen (drop_of_length-le c.args.lines.now c.loop-line-test.false)) c.loop-line.invariant.lines
 
 pub returns-clause-refuses : goal.returns-clause-refuses
