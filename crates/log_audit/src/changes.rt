@@ -148,7 +148,7 @@ fn push_change<'a>(
     to: To<'a>,
 ) -> Result<(), AllocError>
     ensures { OnOk result (map change_seen changes.new.items
-        ≡ map change_seen changes.old.items ++ record { payer = payer; place = place; to = to_seen to } ∷ []) }
+        ≡ map change_seen changes.old.items ++ record { payer = payer; place = place; to = to_seen to.entry } ∷ []) }
 {
     changes.push(Change { payer, place, to })?;
     Ok(())

@@ -145,7 +145,7 @@ fn price_then(payer: u64, product: &[u8], price: Option<u64>, change: &Change<'_
 
 /// The price of a product that cost this before, after a change of its payer's plan.
 fn price_set(product: &[u8], price: Option<u64>, to: To<'_>) -> Option<u64>
-    ensures { result ≡ price_set product.now price (to_seen to) }
+    ensures { result ≡ price_set product.now price (to_seen to.entry) }
 {
     match to {
         To::Price {

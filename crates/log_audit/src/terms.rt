@@ -137,7 +137,7 @@ fn terms_then(payer: u64, terms: Option<Terms>, change: &Change<'_>) -> Option<T
 
 /// The terms after a change of a plan that had these.
 fn terms_set(terms: Option<Terms>, to: To<'_>) -> Option<Terms>
-    ensures { result ≡ terms_set terms (to_seen to) }
+    ensures { result ≡ terms_set terms (to_seen to.entry) }
 {
     match to {
         To::Price { .. } => terms,
