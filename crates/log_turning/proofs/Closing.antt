@@ -12,17 +12,15 @@ use Rattle.kept_logs.specs.declared.fault.LogFault.{LogFault}
 use Rattle.kept_logs.specs.declared.fault.LogFault.TheVariants.{Short}
 use Rattle.kept_logs.specs.Fits.{FitsNode}
 use Rattle.kept_logs.specs.Logs.{KeptReading, head_in, kept_in}
-use Rattle.kept_logs.specs.Rests.{FitsReference, FitsRest, begins, calls_before, rest_in, rest_text}
+use Rattle.kept_logs.specs.Rests.{Rest, FitsReference, FitsRest, begins, calls_before, rest_in, rest_text}
 use Rattle.kept_logs.proofs.RestsBack.{rest_back, begins_back}
 use Rattle.settings_digest.specs.Digests.{turned_in}
 use Rattle.node_service.specs.Serving.{Serving}
 use Rattle.node_service.specs.Opened.{IsBegun, IsOpened}
 use Rattle.node_service.specs.Lines.{IsServing}
 use Rattle.node_service.proofs.Lines.{is_opened_serving}
-use Rattle.std.specs.Global.{Vec}
-use Rattle.log_turning.specs.declared.turning.Closed.{Closed}
-use Rattle.log_turning.specs.Left.{rest_of}
-use Rattle.log_turning.specs.Turned.{IsClosed, IsEnd, IsNew, IsTurned, Serves, ServesOn}
+use Rattle.log_turning.specs.declared.turning.Turned.{Turned}
+use Rattle.log_turning.specs.Turned.{IsEnd, IsNew, IsStarted, IsTurned, Serves, ServesOn}
 
 -- ---- a node that is opened
 
@@ -70,43 +68,47 @@ new_records items (Err why) text node rest kept s t serves on is = tt
 
 -- ---- what it begins with
 
+-- what is left by this node after this many calls, with a log of these bytes after it
+abbrev pub rest_of : Node → ℕ → List ℕ → List Reference → List ℕ → Rest
+rest_of node calls closed references kept = record { node = node; calls = calls; closed = sha256 closed; references = references; kept = kept }
+
 sum_length : (bytes : List ℕ) → length (sha256 bytes) ≡ 32
 unfolding sha256 digest_bytes
 sum_length bytes = refl
 
-pub rest_fits : (node : Node) (calls : ℕ) (closed : List ℕ) (references : List Reference) (kept : List ℕ) → FitsNode node → calls < 2 ^ 64 → length references < 2 ^ 64 → AllByRecursion FitsReference references → FitsRest (rest_of node calls closed references kept)
+rest_fits : (node : Node) (calls : ℕ) (closed : List ℕ) (references : List Reference) (kept : List ℕ) → FitsNode node → calls < 2 ^ 64 → length references < 2 ^ 64 → AllByRecursion FitsReference references → FitsRest (rest_of node calls closed references kept)
 rest_fits node calls closed references kept fits small few each = record { node = fits; calls = small; closed = sum_length closed; count = few; references = each }
 
 -- from it the settings make the node that left it
-pub goes_on : (text : List ℕ) (node : Node) (rest : Option (List ℕ)) (bytes : List ℕ) (closed : Closed) (is : IsClosed text node rest bytes closed) (calls : ℕ) (front begun : List ℕ)
-    → FitsRest (rest_of node calls front closed.references.items closed.record.items) → begun ≡ rest_text (rest_of node calls front closed.references.items closed.record.items) → begins is.last.settings node (Some begun) ≡ Some is.last.state
-goes_on text node rest bytes closed is calls front begun fits same =
-    let kept = closed.record.items in
-    let stands : resumed (settings_seen is.last.settings) node kept ≡ Some is.last.state = ap (λ (n : Node). resumed (settings_seen is.last.settings) n kept) (sym is.serves.named) ∙ is.started in
-    ap (λ (text : List ℕ). begins is.last.settings node (Some text)) same ∙ begins_back is.last.settings (rest_of node calls front closed.references.items kept) is.last.state fits stands
+pub goes_on : (node : Node) (calls : ℕ) (closed : List ℕ) (s : Serving) (kept begun : List ℕ) → s.node ≡ node → IsStarted s kept → FitsNode node → calls < 2 ^ 64 → length s.references < 2 ^ 64 → AllByRecursion FitsReference s.references
+    → begun ≡ rest_text (rest_of node calls closed s.references kept) → begins s.settings node (Some begun) ≡ Some s.state
+goes_on node calls closed s kept begun named started fits small few each is =
+    let names = rest_of node calls closed s.references kept in
+    let own = rest_fits node calls closed s.references kept fits small few each in
+    let stands : resumed (settings_seen s.settings) node kept ≡ Some s.state = ap (λ (n : Node). resumed (settings_seen s.settings) n kept) (sym named) ∙ started in
+    ap (λ (text : List ℕ). begins s.settings node (Some text)) is ∙ begins_back s.settings names s.state own stands
 
 -- ---- all of it
 
-pub is_turned : (text : List ℕ) (node : Node) (rest : Option (List ℕ)) (bytes : List ℕ) (closed : Closed) (is : IsClosed text node rest bytes closed) (begun log : Vec ℕ) (calls : ℕ)
-    → FitsRest (rest_of node calls (take closed.kept bytes ++ closed.closing.items) closed.references.items closed.record.items)
-    → begun.items ≡ rest_text (rest_of node calls (take closed.kept bytes ++ closed.closing.items) closed.references.items closed.record.items) → calls ≡ calls_before rest + closed.calls → IsNew text node begun.items log.items
-    → IsTurned text node rest bytes (record { kept = closed.kept; closing = closed.closing; rest = begun; log = log; calls = calls })
-is_turned text node rest bytes closed is begun log calls fits same counted new =
-    let front = take closed.kept bytes ++ closed.closing.items in
-    let names = rest_of node calls front closed.references.items closed.record.items in
+pub is_turned : (text : List ℕ) (node : Node) (rest : Option (List ℕ)) (bytes : List ℕ) (turned : Turned) (s : Serving) (kept : List ℕ) → Serves text node rest bytes turned.kept s → IsStarted s kept → turned.closing.items ≡ s.records
+    → FitsNode node → turned.calls < 2 ^ 64 → length s.references < 2 ^ 64 → AllByRecursion FitsReference s.references → turned.rest.items ≡ rest_text (rest_of node turned.calls (take turned.kept bytes ++ s.records) s.references kept) → turned.calls ≡ calls_before rest + s.calls → IsNew text node turned.rest.items turned.log.items
+    → IsTurned text node rest bytes turned
+is_turned text node rest bytes turned s kept is started closing fits small few each begins_with counted new =
+    let names = rest_of node turned.calls (take turned.kept bytes ++ s.records) s.references kept in
+    let own = rest_fits node turned.calls (take turned.kept bytes ++ s.records) s.references kept fits small few each in
     record {
-      last = is.last;
-      spells = is.serves.spells;
-      closed = is.serves.log;
-      own = is.serves.own;
-      start = is.serves.start;
-      opened = is.serves.opened;
-      more = is.serves.more;
-      longer = is.serves.calls;
-      ends = is.serves.ends;
-      file = ap (λ (more : List ℕ). take closed.kept bytes ++ more) is.closing ∙ is.serves.served.text;
-      served = is.serves.served;
-      goes_on = goes_on text node rest bytes closed is calls front begun.items fits same;
+      last = s;
+      spells = is.spells;
+      closed = is.log;
+      own = is.own;
+      start = is.start;
+      opened = is.opened;
+      more = is.more;
+      longer = is.calls;
+      ends = is.ends;
+      file = ap (λ (more : List ℕ). take turned.kept bytes ++ more) closing ∙ is.served.text;
+      served = is.served;
+      goes_on = goes_on node turned.calls (take turned.kept bytes ++ s.records) s kept turned.rest.items is.named started fits small few each begins_with;
       next = new.next;
       spelled = new.spelled;
       begun = new.begun;
@@ -115,9 +117,9 @@ is_turned text node rest bytes closed is begun log calls fits same counted new =
       log = new.log_is;
       serves = new.serves;
       begins_with = names;
-      reads = ap rest_in same ∙ rest_back names fits;
-      digest = refl;
+      reads = ap rest_in begins_with ∙ rest_back names own;
+      digest = ap (λ (more : List ℕ). sha256 (take turned.kept bytes ++ more)) (sym closing);
       calls = refl;
-      counted = counted ∙ ap (λ (n : ℕ). calls_before rest + n) (is.calls ∙ is.serves.served.calls);
-      referred = is.referred;
+      counted = counted ∙ ap (λ (n : ℕ). calls_before rest + n) is.served.calls;
+      referred = refl;
     }

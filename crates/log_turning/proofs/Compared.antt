@@ -1,14 +1,15 @@
 -- What a closed log leaves, and the rest after it.
-use Rattle.std.proofs.Common.{◌≡◌, ◌⊎◌, inl, inr, ℕ, Bool, IsTrue, IfOk, List, [], ◌∷◌, ◌++◌, Option, Some, Result, Ok, Err, ap, ◌∙◌}
+use Rattle.std.proofs.Common.{◌≡◌, ◌⊎◌, inl, inr, ℕ, Bool, IsTrue, IfOk, List, [], ◌∷◌, ◌++◌, Option, Some, Result, Ok, Err, refl, sym, ap, ◌∙◌, subst}
 use Rattle.claim_model.specs.Node.{Node}
+use Rattle.world_setup.specs.Seen.{settings_seen}
+use Rattle.node_state.specs.Resting.{resumed}
 use Rattle.kept_logs.specs.References.{Reference}
-use Rattle.kept_logs.specs.Rests.{FitsRest, calls_before, references_of, rest_in, rest_text}
-use Rattle.kept_logs.proofs.RestsBack.{rest_back}
+use Rattle.kept_logs.specs.Rests.{FitsRest, begins, calls_before, references_of, rest_in, rest_text}
+use Rattle.kept_logs.proofs.RestsBack.{rest_back, begins_back}
 use Rattle.log_turning.specs.declared.turning.Closed.{Closed}
 use Rattle.log_turning.specs.Joined.{Part, last_part}
 use Rattle.log_turning.specs.Left.{AreLeft, IsLeft, IsLeftBy, rest_of}
 use Rattle.log_turning.specs.Turned.{IsClosed}
-use Rattle.log_turning.proofs.Closing.{goes_on}
 
 -- one log more after some
 pub left_more : (text : List ℕ) (node : Node) (last : Option Part) (ps : List Part) (p : Part) → AreLeft text node last ps → IsLeft text node (last_part last ps) p → AreLeft text node last (ps ++ p ∷ [])
@@ -21,6 +22,7 @@ pub is_left : (text : List ℕ) (node : Node) (p : Part) (rest : List ℕ) (left
 is_left text node p rest left is same fits =
     let calls = calls_before (Some rest) in
     let names = rest_of node calls p.log left.references.items left.record.items in
+    let stands : resumed (settings_seen is.last.settings) node left.record.items ≡ Some is.last.state = ap (λ (n : Node). resumed (settings_seen is.last.settings) n left.record.items) (sym is.serves.named) ∙ is.started in
     record {
       kept = left.kept;
       last = is.last;
@@ -28,7 +30,7 @@ is_left text node p rest left is same fits =
       left = left.record.items;
       started = is.started;
       is = same ∙ ap (λ (references : List Reference). rest_text (rest_of node calls p.log references left.record.items)) is.referred;
-      goes_on = goes_on text node p.rest p.log left is calls p.log rest fits same;
+      goes_on = ap (λ (bytes : List ℕ). begins is.last.settings node (Some bytes)) same ∙ begins_back is.last.settings names is.last.state fits stands;
       referred = ap references_of (ap rest_in same ∙ rest_back names fits) ∙ is.referred;
     }
 

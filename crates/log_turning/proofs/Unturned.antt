@@ -36,7 +36,7 @@ use Rattle.node_service.specs.declared.fault.ServiceFault.TheVariants as service
 use Rattle.log_turning.specs.declared.fault.TurnFault.{TurnFault}
 use Rattle.log_turning.specs.declared.fault.TurnFault.TheVariants.{OutOfMemory, Refused, NoRecord}
 use Rattle.log_turning.specs.Turned.{Serves, ServesOn}
-use Rattle.log_turning.specs.Unturned.{CanGoOn, IsUnclosed, IsUnserved, IsUnstarted, IsUnturnedBy, turn_fault}
+use Rattle.log_turning.specs.Unturned.{CanGoOn, HasNoRecord, IsUnclosed, IsUnended, IsUnserved, IsUnstarted, IsUnturned, LeavesNone, turn_fault}
 use Rattle.log_turning.proofs.Closing.{none_read}
 use Rattle.log_turning.proofs.Lines.{stop_asks}
 
@@ -76,6 +76,10 @@ pub passed : {A : Type 0} (r : Result A TurnFault) (e : TurnFault) (Why : TurnFa
 passed (Ok x) e Why h is = absurd h
 passed (Err f) e Why h is = subst Why (sym h) is
 
+pub for_another : {A : Type 0} (r : Result A TurnFault) (Why Then : TurnFault → Type 0) → ((e : TurnFault) → Why e → Then e) → IfErr r Why → IfErr r Then
+for_another (Ok x) Why Then follows is = tt
+for_another (Err e) Why Then follows is = follows e is
+
 pub refused_unserved : (text : List ℕ) (node : Node) (rest : Option (List ℕ)) (bytes : List ℕ) (why : ServiceFault) → IsRefused text node rest bytes why → IsUnserved text node rest bytes (turn_fault why)
 refused_unserved text node rest bytes service_fault.OutOfMemory is = tt
 refused_unserved text node rest bytes service_fault.Settings is = (λ same. cc, is)
@@ -85,17 +89,26 @@ refused_unserved text node rest bytes (service_fault.Log fault) is = (λ same. c
 refused_unserved text node rest bytes service_fault.OtherNode is = (λ same. cc, is)
 refused_unserved text node rest bytes (service_fault.NotMade place) is = (λ same. cc, is)
 
-pub unstarted_unclosed : (text : List ℕ) (node : Node) (rest : Option (List ℕ)) (bytes : List ℕ) (kept : ℕ) (s : Serving) (why : TurnFault)
-    → Serves text node rest bytes kept s → is_down s.state ≡ true → IsUnstarted s why → IsUnclosed text node rest bytes why
-unstarted_unclosed text node rest bytes kept s OutOfMemory serves down is = tt
-unstarted_unclosed text node rest bytes kept s (Refused why) serves down is = absurd is
-unstarted_unclosed text node rest bytes kept s NoRecord serves down is = record { kept = kept; last = s; serves = serves; down = down; none = is }
+pub unstarted_unended : (text : List ℕ) (node : Node) (rest : Option (List ℕ)) (bytes : List ℕ) (kept : ℕ) (s : Serving) (why : TurnFault)
+    → Serves text node rest bytes kept s → is_down s.state ≡ true → IsUnstarted s why → IsUnended text node rest bytes why
+unstarted_unended text node rest bytes kept s OutOfMemory serves down is = tt
+unstarted_unended text node rest bytes kept s (Refused why) serves down is = is
+unstarted_unended text node rest bytes kept s NoRecord serves down is = record { kept = kept; last = s; serves = serves; down = down; none = is }
 
--- what is so of the node whenever there is no record
-pub for_another : (A B : Type 0) → (A → B) → (text : List ℕ) (node : Node) (rest : Option (List ℕ)) (bytes : List ℕ) (why : TurnFault) → IsUnturnedBy A text node rest bytes why → IsUnturnedBy B text node rest bytes why
-for_another A B goes text node rest bytes OutOfMemory is = tt
-for_another A B goes text node rest bytes (Refused why) is = is
-for_another A B goes text node rest bytes NoRecord is = goes is
+pub unserved_unclosed : (text : List ℕ) (node : Node) (rest : Option (List ℕ)) (bytes : List ℕ) (why : TurnFault) → IsUnserved text node rest bytes why → IsUnclosed text node rest bytes why
+unserved_unclosed text node rest bytes OutOfMemory is = tt
+unserved_unclosed text node rest bytes (Refused why) is = is
+unserved_unclosed text node rest bytes NoRecord is = absurd is
+
+pub unended_unclosed : (text : List ℕ) (node : Node) (rest : Option (List ℕ)) (bytes : List ℕ) (why : TurnFault) → IsUnended text node rest bytes why → IsUnclosed text node rest bytes why
+unended_unclosed text node rest bytes OutOfMemory is = tt
+unended_unclosed text node rest bytes (Refused why) is = absurd is
+unended_unclosed text node rest bytes NoRecord is = is
+
+pub unclosed_unturned : (text : List ℕ) (node : Node) (rest : Option (List ℕ)) (bytes : List ℕ) (why : TurnFault) → IsUnclosed text node rest bytes why → IsUnturned text node rest bytes why
+unclosed_unturned text node rest bytes OutOfMemory is = tt
+unclosed_unturned text node rest bytes (Refused why) is = is
+unclosed_unturned text node rest bytes NoRecord is = inl is
 
 -- ---- settings by their document
 

@@ -44,24 +44,31 @@ turn_fault (service_fault.Log why) = Refused (service_fault.Log why)
 turn_fault service_fault.OtherNode = Refused service_fault.OtherNode
 turn_fault (service_fault.NotMade place) = Refused (service_fault.NotMade place)
 
--- a log is not turned over for this cause, where of its node this is so whenever it is told that there is no record
-abbrev pub IsUnturnedBy : Type 0 → List ℕ → Node → Option (List ℕ) → List ℕ → TurnFault → Type 0
-IsUnturnedBy none text node rest bytes OutOfMemory = ⊤
-IsUnturnedBy none text node rest bytes (Refused why) = (why ≢ service_fault.OutOfMemory) × IsRefused text node rest bytes why
-IsUnturnedBy none text node rest bytes NoRecord = none
-
+-- a log is not turned over for this cause
 abbrev pub IsUnturned : List ℕ → Node → Option (List ℕ) → List ℕ → TurnFault → Type 0
-IsUnturned text node rest bytes why = IsUnturnedBy (LeavesNone text node rest bytes ⊎ HasTooMany text node rest bytes) text node rest bytes why
+IsUnturned text node rest bytes OutOfMemory = ⊤
+IsUnturned text node rest bytes (Refused why) = (why ≢ service_fault.OutOfMemory) × IsRefused text node rest bytes why
+IsUnturned text node rest bytes NoRecord = LeavesNone text node rest bytes ⊎ HasTooMany text node rest bytes
 
 -- ---- on the way
 
 -- no node is served from bytes for this cause
 abbrev pub IsUnserved : List ℕ → Node → Option (List ℕ) → List ℕ → TurnFault → Type 0
-IsUnserved text node rest bytes why = IsUnturnedBy ⊥ text node rest bytes why
+IsUnserved text node rest bytes OutOfMemory = ⊤
+IsUnserved text node rest bytes (Refused why) = (why ≢ service_fault.OutOfMemory) × IsRefused text node rest bytes why
+IsUnserved text node rest bytes NoRecord = ⊥
 
 -- a log is not closed for this cause
 abbrev pub IsUnclosed : List ℕ → Node → Option (List ℕ) → List ℕ → TurnFault → Type 0
-IsUnclosed text node rest bytes why = IsUnturnedBy (LeavesNone text node rest bytes) text node rest bytes why
+IsUnclosed text node rest bytes OutOfMemory = ⊤
+IsUnclosed text node rest bytes (Refused why) = (why ≢ service_fault.OutOfMemory) × IsRefused text node rest bytes why
+IsUnclosed text node rest bytes NoRecord = LeavesNone text node rest bytes
+
+-- the log of a node that is served is not closed for this cause
+abbrev pub IsUnended : List ℕ → Node → Option (List ℕ) → List ℕ → TurnFault → Type 0
+IsUnended text node rest bytes OutOfMemory = ⊤
+IsUnended text node rest bytes (Refused why) = ⊥
+IsUnended text node rest bytes NoRecord = LeavesNone text node rest bytes
 
 -- a node is not started for this cause
 abbrev pub IsUnstarted : Serving → TurnFault → Type 0

@@ -1,17 +1,20 @@
 //! Whether logs that go on one after another begin with what their node left.
 
-ghost use Rattle.std.specs.Prelude.{◌≡◌, ◌≢◌, ◌⊎◌, ◌↔◌, Option, Some, None, map, IfErr, IfOk, IfSome, IsTrue, OnOk};
+ghost use Rattle.std.specs.Prelude.{◌≡◌, ◌≢◌, ◌⊎◌, ◌↔◌, ℕ, List, Option, Some, None, map, IfErr, IfOk, IfSome, IsSome, IsTrue, OnOk};
 ghost use Rattle.std.specs.Option.{option_copied, option_map};
 ghost use Rattle.kept_logs.specs.Rests.{FitsRest, calls_before, rest_text};
+ghost use Rattle.claim_model.specs.Node as model;
 ghost use Rattle.world_setup.specs.Seen.{node_seen};
 ghost use Rattle.log_turning.specs.Joined.{part_seen};
 ghost use Rattle.log_turning.specs.Left.{AreLeft, GoesBehind, GoesElsewhere, IsLeft, IsLeftBy, IsNotLeft, IsOther, IsUnleft, IsUnmade, rest_of};
-ghost use Rattle.log_turning.specs.Turned.{IsClosed};
+ghost use Rattle.log_turning.specs.Turned.{IsClosed, Serves};
 
 use crate::fault::{RestFault, TurnFault};
 use crate::joining::Part;
-use crate::turning::{Closed, close_log};
+use crate::turning::{Closed, end_log};
 use kept_logs::{Rest, calls_before, write_rest};
+use node_service::{Service, ServiceFault};
+use payer_book::HashKeys;
 use sha2::{Digest, Sha256};
 use std::alloc::{AllocError, Global};
 use world_setup::Node;
@@ -109,10 +112,32 @@ fn left_by(
         IsClosed text.now (node_seen node) (part_seen closed.now).rest (part_seen closed.now).log left)) }
     ensures none { IfOk result (λ found. found ≡ None → IsUnmade text.now (node_seen node) (part_seen closed.now)) }
 {
-    match close_log(alloc, text, node, closed.rest, closed.log) {
-        Ok(left) => Ok(Some(left)),
-        Err(TurnFault::Refused(_)) => Ok(None),
-        Err(TurnFault::OutOfMemory | TurnFault::NoRecord) => Err(AllocError),
+    match Service::open(
+        alloc,
+        &HashKeys::fixed(),
+        text,
+        node,
+        closed.rest,
+        closed.log,
+    ) {
+        Ok((service, kept)) => ended(alloc, service, kept),
+        Err(ServiceFault::OutOfMemory) => Err(AllocError),
+        Err(_) => Ok(None),
+    }
+}
+
+/// The closed log of a node that is served.
+fn ended(alloc: Global, service: Service, kept: usize) -> Result<Option<Closed>, AllocError>
+    ensures closed { (text : List ℕ) (node : model.Node) (rest : Option (List ℕ)) (bytes : List ℕ)
+        → Serves text node rest bytes kept service
+        → IfOk result (λ found. IfSome found (λ closed. IsClosed text node rest bytes closed)) }
+    ensures some { IfOk result (λ found. IsSome found) }
+{
+    match end_log(alloc, service, kept) {
+        Ok(closed) => Ok(Some(closed)),
+        Err(TurnFault::OutOfMemory | TurnFault::Refused(_) | TurnFault::NoRecord) => Err(
+            AllocError,
+        ),
     }
 }
 

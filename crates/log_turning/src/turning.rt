@@ -1,15 +1,16 @@
 //! A log that is closed, and the one in which its node goes on.
 
-ghost use Rattle.std.specs.Prelude.{◌≡◌, ◌++◌, true, take, Option, IfErr, IfOk, OnOk};
+ghost use Rattle.std.specs.Prelude.{◌≡◌, ℕ, ◌++◌, true, List, take, Option, IfErr, IfOk, OnOk};
 ghost use Rattle.std.specs.Option.{option_copied};
 ghost use Rattle.std.specs.List.{AllByRecursion};
 ghost use Rattle.sha2.specs.Sha256.{sha256};
 ghost use Rattle.world_setup.specs.Seen.{node_seen};
+ghost use Rattle.claim_model.specs.Node as model;
 ghost use Rattle.node_service.specs.Lines.{line_kept};
 ghost use Rattle.node_service.specs.Serving.{after_line};
 ghost use Rattle.node_state.specs.Resting.{is_down};
 ghost use Rattle.log_turning.specs.declared.fault.TurnFault.TheVariants.{OutOfMemory};
-ghost use Rattle.log_turning.specs.Unturned.{CanGoOn, IsUnclosed, IsUnserved, IsUnstarted, IsUnturned};
+ghost use Rattle.log_turning.specs.Unturned.{CanGoOn, IsUnclosed, IsUnended, IsUnserved, IsUnstarted, IsUnturned};
 ghost use Rattle.log_turning.specs.Turned.{IsClosed, IsEnd, IsNew, IsStarted, IsTurned, Serves, ServesOn};
 
 use crate::fault::TurnFault;
@@ -65,7 +66,7 @@ pub fn turn_log(
     let Some(calls) = calls_before(alloc, rest)?.checked_add(calls) else {
         return Err(TurnFault::NoRecord);
     };
-    let digest = digest_of(bytes, kept, closing.as_slice());
+    let digest = digest_of(front(bytes, kept), closing.as_slice());
     let begins = write_rest(
         alloc,
         &Rest {
@@ -104,7 +105,7 @@ pub(crate) struct Closed {
 }
 
 /// Closes the log of a node.
-pub(crate) fn close_log(
+fn close_log(
     alloc: Global,
     text: &[u8],
     node: Node,
@@ -117,6 +118,18 @@ pub(crate) fn close_log(
         IsUnclosed text.now (node_seen node) (option_copied rest.entry) bytes.now why) }
 {
     let (service, kept) = open(alloc, text, node, rest, bytes)?;
+    end_log(alloc, service, kept)
+}
+
+/// Closes the log of the node that is served, of whose bytes this many stay.
+pub(crate) fn end_log(alloc: Global, service: Service, kept: usize) -> Result<Closed, TurnFault>
+    ensures closed { (text : List ℕ) (node : model.Node) (rest : Option (List ℕ)) (bytes : List ℕ)
+        → Serves text node rest bytes kept service
+        → IfOk result (λ closed. IsClosed text node rest bytes closed) }
+    ensures refused { (text : List ℕ) (node : model.Node) (rest : Option (List ℕ)) (bytes : List ℕ)
+        → Serves text node rest bytes kept service
+        → IfErr result (λ why. IsUnended text node rest bytes why) }
+{
     let mut service = service;
     let was_up = stop(alloc, &mut service)?;
     let record = start(alloc, &mut service)?;
@@ -223,12 +236,12 @@ fn front(bytes: &[u8], count: usize) -> &[u8]
     }
 }
 
-/// The SHA-256 digest of the first bytes, this many, and of those after them.
-fn digest_of(bytes: &[u8], count: usize, more: &[u8]) -> [u8; 32]
-    ensures { result ≡ sha256 (take count bytes.now ++ more.now) }
+/// The SHA-256 digest of bytes and those after them.
+fn digest_of(bytes: &[u8], more: &[u8]) -> [u8; 32]
+    ensures { result ≡ sha256 (bytes.now ++ more.now) }
 {
     let mut hasher = Sha256::new();
-    hasher.update(front(bytes, count));
+    hasher.update(bytes);
     hasher.update(more);
     hasher.finalize()
 }
