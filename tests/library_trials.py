@@ -131,7 +131,7 @@ class Trials(unittest.TestCase):
         for call in (
             lambda: payer.take("sw1", asked.data),
             lambda: payer.adjudicate("sw1", asked.data, b""),
-            lambda: payer.adjudicate("sw1", asked.data, advice[:-1]),
+            lambda: payer.adjudicate("sw1", asked.data, advice[:-7]),
         ):
             with self.assertRaises(Refused) as caught:
                 call()

@@ -12,8 +12,8 @@ from typing import Any
 
 from vogrilas import Answer, Ruling, decoded
 
-# Payer sheets say 79 of a refill too soon and 88 of an interaction. Answers carry twelve codes, of which 70 comes nearest to both.
-NOT_A_MEMBER, TOO_SOON, INTERACTS = "07", "70", "70"
+# What payer sheets say of whom they do not know, of a refill too soon, and of an interaction.
+NOT_A_MEMBER, TOO_SOON, INTERACTS = "07", "79", "88"
 COPAY, MOST_FEE, SOON_DAYS, SECONDS = 1000, 150, 23, 2.0
 POST = "INSERT OR IGNORE INTO ledger VALUES (:row, :transaction, :pharmacy, :number, :ruling, :authorization, :cents, NULL)"
 DATABASE, LOCK = sqlite3.connect(sys.argv[1], check_same_thread=False), threading.Lock()

@@ -39,6 +39,57 @@ static long long number_of(const char *json, const char *finding, int transactio
     return value == NULL || end == NULL || value > end ? -1 : strtoll(value + strlen(text), NULL, 10);
 }
 
+/* Where the separator that ends a part of a message stands, or the message ends. */
+static const char *part_end(const char *at, const char *end) {
+    for (at++; at < end && (*at < 0x1c || *at > 0x1e); at++) continue;
+    return at;
+}
+
+/* Whether the transaction that begins here has a value for a field in a segment, whose names have the separator of fields in front. */
+static bool has_value(const char *at, const char *end, const char *segment, const char *field) {
+    bool is_name = false, is_inside = false;
+    for (const char *next; at < end && *at != 0x1d; at = next) {
+        next = part_end(at, end);
+        if (*at == 0x1e) is_inside = false;
+        else if (is_name) is_inside = next - at == 5 && memcmp(at, segment, 5) == 0;
+        else if (is_inside && next - at > 3 && memcmp(at, field, 3) == 0) return true;
+        is_name = *at == 0x1e;
+    }
+    return false;
+}
+
+/* An advice as a book's answer, so that the description finds no fault with what is not asked of advices: each transaction has one authorization
+   number (503-F3), of a book, and a fee (507-F7), which is 0 where it has none. */
+static struct bytes as_of_a_book(const struct bytes *advice) {
+    static const char status[] = "\x1c" "AM21", pricing[] = "\x1c" "AM23", number[] = "\x1c" "F30001000000000001", fee[] = "\x1c" "F70{";
+    const char *end = advice->at + advice->size;
+    struct bytes text = { NULL, 0, 0 };
+    bool is_name = false, is_status = false, lacks_number = false, lacks_fee = false;
+    add(&text, "", 0);
+    for (const char *at = advice->at, *next; at < end; at = next) {
+        bool names = is_name && *at == 0x1c;
+        next = part_end(at, end);
+        is_name = *at == 0x1e;
+        if (*at != 0x1c) is_status = false;
+        if (is_status && next - at >= 3 && memcmp(at, number, 3) == 0) continue;
+        add(&text, at, (size_t)(next - at));
+        if (*at == 0x1d) {
+            lacks_number = true;
+            lacks_fee = !has_value(next, end, pricing, fee);
+        }
+        if (!names || next - at != 5) continue;
+        is_status = memcmp(at, status, 5) == 0;
+        if (is_status && lacks_number) {
+            add(&text, number, sizeof number - 1);
+            lacks_number = false;
+        } else if (memcmp(at, pricing, 5) == 0 && lacks_fee) {
+            add(&text, fee, sizeof fee - 1);
+            lacks_fee = false;
+        }
+    }
+    return text;
+}
+
 static int rulings_in(const char *json) {
     int count = 0;
     for (const char *at = json; (at = strstr(at, "\"finding\":\"ruling\"")) != NULL; at++) count++;
@@ -47,7 +98,7 @@ static int rulings_in(const char *json) {
 
 /* The name of the fault for which a text reads as no answer; NULL of an answer. */
 static const char *unread(const char *json) {
-    static const char *const fault[] = { "NoStatus", "BadStatus", "BadAuthorization", "BadClaim", "BadAmount", "BadRejects" };
+    static const char *const fault[] = { "NoStatus", "BadStatus", "BadClaim", "BadAmount", "BadRejects" };
     char text[64];
     for (size_t at = 0; at < sizeof fault / sizeof *fault; at++) {
         snprintf(text, sizeof text, "\"finding\":\"no_answer\",\"fault\":\"%s\"", fault[at]);
@@ -65,12 +116,13 @@ static bool names_another(const char *request, const char *answer, int transacti
 }
 
 const char *advice_fault(const struct bytes *request, const struct bytes *answer) {
-    struct bytes asked = described(request), told = described(answer);
+    struct bytes advice = as_of_a_book(answer), asked = described(request), told = described(&advice);
     int transactions = request->size > 20 ? request->at[20] - '0' : 0;
     const char *fault = unread(told.at);
     if (fault == NULL && rulings_in(told.at) != transactions) fault = "OtherPlaces";
     for (int at = 1; fault == NULL && at <= transactions; at++)
         if (names_another(asked.at, told.at, at)) fault = "OtherPrescription";
+    free(advice.at);
     free(asked.at);
     free(told.at);
     return fault == NULL ? "NoVerdict" : fault;

@@ -76,23 +76,38 @@ void http_begin(struct asked *asked) {
     curl_multi_add_handle(rules->multi, asked->handle);
 }
 
+/* Whether an answer says where it ends: by its length, in chunks, or in frames of HTTP/2. One that ends where its connection does may have been
+   cut off, and amounts that have lost digits are amounts. */
+static bool says_its_end(CURL *handle) {
+    curl_off_t length = -1;
+    long version = 0;
+    struct curl_header *chunked = NULL;
+    curl_easy_getinfo(handle, CURLINFO_CONTENT_LENGTH_DOWNLOAD_T, &length);
+    curl_easy_getinfo(handle, CURLINFO_HTTP_VERSION, &version);
+    return length >= 0 || version >= CURL_HTTP_VERSION_2_0 ||
+           curl_easy_header(handle, "Transfer-Encoding", 0, CURLH_HEADER, -1, &chunked) == CURLHE_OK;
+}
+
 /* What a transfer that has ended brought. */
-static enum came came_of(const struct asked *asked, CURLcode code) {
+static enum came came_of(const struct asked *asked, CURLcode code, bool is_whole) {
     if (asked->status != 0 && asked->status != 200) return CAME_STATUS;
     if (asked->came == CAME_TOO_LONG || code == CURLE_FILESIZE_EXCEEDED) return CAME_TOO_LONG;
     if (code == CURLE_OPERATION_TIMEDOUT) return CAME_TIMED_OUT;
     if (code != CURLE_OK) return asked->status == 0 ? CAME_UNREACHABLE : CAME_BROKEN;
     /* Of a first line that is nearly one of HTTP libcurl tells no status, and no fault. */
     if (asked->status == 0) return CAME_STATUS;
-    return asked->answer.size == 0 ? CAME_EMPTY : CAME_ADVICE;
+    if (asked->answer.size == 0) return CAME_EMPTY;
+    return is_whole ? CAME_ADVICE : CAME_BROKEN;
 }
 
 void http_done(struct rules *rules, CURL *handle, CURLcode code) {
     struct asked *asked = NULL;
     curl_easy_getinfo(handle, CURLINFO_PRIVATE, (char **)&asked);
     curl_easy_getinfo(handle, CURLINFO_RESPONSE_CODE, &asked->status);
+    bool is_whole = says_its_end(handle);
     curl_multi_remove_handle(rules->multi, handle);
     curl_easy_cleanup(handle);
     asked->handle = NULL;
-    rules_came(asked, came_of(asked, code), code == CURLE_OK ? NULL : curl_easy_strerror(code));
+    const char *why = code != CURLE_OK ? curl_easy_strerror(code) : is_whole ? NULL : "it does not say where it ends";
+    rules_came(asked, came_of(asked, code, is_whole), why);
 }

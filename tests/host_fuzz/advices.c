@@ -77,7 +77,8 @@ static void try_http(struct input *input) {
     }
     expect(asked.answer.size <= MOST_ANSWER && (is_open || asked.came == CAME_TOO_LONG));
     asked.status = 200;
-    enum came came = came_of(&asked, CURLE_OK);
+    enum came came = came_of(&asked, CURLE_OK, true);
+    expect(came_of(&asked, CURLE_OK, false) == (came == CAME_ADVICE ? CAME_BROKEN : came));
     expect(is_open ? came == (asked.answer.size == 0 ? CAME_EMPTY : CAME_ADVICE) : came == CAME_TOO_LONG);
     free(asked.answer.at);
 }

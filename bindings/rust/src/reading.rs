@@ -29,7 +29,7 @@ pub struct Paid {
     pub fee: u64,
     /// What the patient pays (505-F5).
     pub copay: u64,
-    /// The total paid (509-F9): cost and fee, less the copay.
+    /// The total paid (509-F9): of what a plan pays cost and fee, less the copay.
     pub total: u64,
 }
 

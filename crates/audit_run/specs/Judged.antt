@@ -7,6 +7,8 @@ use Rattle.log_audit.specs.declared.report.Form.{Form}
 use Rattle.log_audit.specs.declared.report.Form.TheVariants.{Lines, Json, Csv, Changes, Schedule}
 use Rattle.log_audit.specs.declared.reading.GivenLog.{GivenLog}
 use Rattle.audit_words.specs.declared.asked.Judging.{Judging}
+use Rattle.audit_words.specs.declared.asked.Scope.{Scope}
+use Rattle.audit_words.specs.declared.asked.Scope.TheVariants.{Run, Each, Days}
 use Rattle.audit_run.specs.declared.completing.Judged.{Judged}
 use Rattle.audit_run.specs.Completing.{Completes}
 
@@ -22,9 +24,15 @@ is_of_whole_logs Json = false
 is_of_whole_logs (Csv table) = false
 is_of_whole_logs Schedule = false
 
--- logs may go on after closed ones that do not stand beside them: where each is judged by itself, and not by all its calls
+-- not all calls of the nodes are wanted
+abbrev pub is_of_some : Scope → Bool
+is_of_some Run = false
+is_of_some Each = true
+is_of_some Days = true
+
+-- logs may go on after closed ones that do not stand beside them: where each is judged by itself or as one of days, and not by all its calls
 abbrev pub may_go_on : Judging → Bool
-may_go_on j = j.alone && not (is_of_whole_logs j.form)
+may_go_on j = is_of_some j.scope && not (is_of_whole_logs j.form)
 
 -- logs as they are read: where they may not go on, each as one that begins with the opening of its node
 abbrev pub given_for : Judging → List GivenLog → List Given
@@ -35,13 +43,14 @@ pub record AsGiven (a : Audited) (j : Judged) : Type 0 where
   pub same : j.audited ≡ a
   pub none : j.made.items ≡ []
 
--- logs that were read are judged: one by one as they were given, together with those that are made of switches which kept none
-abbrev pub TakesRead : Bool → Audited → Judged → Type 0
-TakesRead true a j = AsGiven a j
-TakesRead false a j = Completes a j
+-- logs that were read are judged: as those of a run together with those that are made of switches which kept none, else as they were given
+abbrev pub TakesRead : Scope → Audited → Judged → Type 0
+TakesRead Run a j = Completes a j
+TakesRead Each a j = AsGiven a j
+TakesRead Days a j = AsGiven a j
 
 -- which logs are judged of those that were given under the settings that a text spells
 pub record Judges (by : Judging) (text : List ℕ) (logs : List GivenLog) (j : Judged) : Type 0 where
   pub read : Audited
   pub given : IsRead text (given_for by logs) read.settings (logs_seen read.logs.items) (rests_seen read.rests.items) read.torn.items
-  pub takes : TakesRead by.alone read j
+  pub takes : TakesRead by.scope read j

@@ -5,10 +5,10 @@ ghost use Rattle.log_audit.specs.declared.fault.AuditFault.TheVariants.{OutOfMem
 ghost use Rattle.log_audit.specs.Calls.{IsCallsTable};
 ghost use Rattle.log_audit.specs.Given.{bytes_of, given_of};
 ghost use Rattle.log_audit.specs.Refused.{IsRefused, IsUntabled};
-ghost use Rattle.audit_run.specs.Judged.{AsGiven, Judges, TakesRead, given_for, logs_in, may_go_on};
+ghost use Rattle.audit_run.specs.Judged.{AsGiven, Judges, TakesRead, given_for, is_of_some, is_of_whole_logs, logs_in, may_go_on};
 
 use crate::completing::{Judged, completed};
-use audit_words::Judging;
+use audit_words::{Judging, Scope};
 use log_audit::{AuditFault, Audited, Form, GivenLog, calls_table, opened, read_audited};
 use std::alloc::{AllocError, Global};
 
@@ -21,22 +21,40 @@ pub struct Files {
     pub logs: Vec<GivenLog>,
 }
 
-/// Whether logs may go on after closed ones that do not stand beside them: those that are judged one by one. Changes of plans are
-/// those of all calls.
+/// Whether logs may go on after closed ones that do not stand beside them: those that are judged one by one, or as those of
+/// days. Changes of plans are those of all calls.
 pub fn may_go_on(by: Judging) -> bool
     ensures { result ≡ may_go_on by }
 {
-    match by.form {
-        Form::Changes(_) => false,
-        Form::Lines => by.alone,
-        Form::Json => by.alone,
-        Form::Csv(_) => by.alone,
-        Form::Schedule => by.alone,
+    is_of_some(by.scope) && !is_of_whole_logs(by.form)
+}
+
+/// Whether logs are judged so that not all calls of their nodes are wanted.
+fn is_of_some(scope: Scope) -> bool
+    ensures { result ≡ is_of_some scope }
+{
+    match scope {
+        Scope::Run => false,
+        Scope::Each => true,
+        Scope::Days => true,
+    }
+}
+
+/// Whether a form is told of whole logs alone.
+fn is_of_whole_logs(form: Form) -> bool
+    ensures { result ≡ is_of_whole_logs form }
+{
+    match form {
+        Form::Changes(_) => true,
+        Form::Lines => false,
+        Form::Json => false,
+        Form::Csv(_) => false,
+        Form::Schedule => false,
     }
 }
 
 /// Reads the settings and the logs, of which each may go on after closed ones where `may_go_on` says so; and makes the logs of
-/// switches that kept none, where all are judged together.
+/// switches that kept none, where all are judged as those of a run.
 ///
 /// # Errors
 /// Those of `read_audited`.
@@ -49,7 +67,7 @@ pub fn judged_logs(alloc: Global, files: Files, by: Judging) -> Result<Judged, A
     let Files { text, logs } = files;
     let given = given_for(alloc, by, logs)?;
     let read = read_audited(alloc, text, given)?;
-    take_read(alloc, read, by.alone)
+    take_read(alloc, read, by.scope)
 }
 
 /// The logs as they are read: where they may not go on after others, each begins with the opening of its node.
@@ -78,15 +96,15 @@ pub fn calls_of(alloc: Global, files: Files) -> Result<Vec<u8>, AuditFault>
     calls_table(alloc, text.as_slice(), whole)
 }
 
-/// Takes logs that were read: one by one as they are, together with those that are made.
-fn take_read(alloc: Global, read: Audited, alone: bool) -> Result<Judged, AuditFault>
-    ensures takes { IfOk result (λ judged. TakesRead alone read judged) }
+/// Takes logs that were read: as those of a run together with those that are made, else as they are.
+fn take_read(alloc: Global, read: Audited, scope: Scope) -> Result<Judged, AuditFault>
+    ensures takes { IfOk result (λ judged. TakesRead scope read judged) }
     ensures memory { IfErr result (λ why. why ≡ OutOfMemory) }
 {
-    if alone {
-        Ok(as_given(alloc, read))
-    } else {
-        completed(alloc, read)
+    match scope {
+        Scope::Run => completed(alloc, read),
+        Scope::Each => Ok(as_given(alloc, read)),
+        Scope::Days => Ok(as_given(alloc, read)),
     }
 }
 

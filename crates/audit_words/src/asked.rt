@@ -2,7 +2,7 @@
 
 ghost use Rattle.std.specs.Prelude.{◌≡◌, codes};
 ghost use Rattle.clap.specs.Words.{found_of};
-ghost use Rattle.audit_words.specs.Asked.{asked_by, asked_in, logs_asked, one_or_other, others_in, report_asked};
+ghost use Rattle.audit_words.specs.Asked.{asked_by, asked_in, asked_within, is_plain, logs_asked, one_or_other, report_asked, scope_in};
 
 use crate::choosing::fitting;
 use crate::found::{count_of, is_given};
@@ -23,12 +23,22 @@ pub enum Asked {
     Report(Report),
 }
 
-/// What logs are judged by, and how that is told.
+/// As what logs are judged.
+#[derive(Clone, Copy, PartialEq, Eq)]
+pub enum Scope {
+    /// As those of one legal run.
+    Run,
+    /// Each by itself: that its node makes it, with nothing judged of other nodes.
+    Each,
+    /// As those of days that begin where the logs begin, each packet vouched for by what journals and books then say.
+    Days,
+}
+
+/// As what logs are judged, and how that is told.
 #[derive(Clone, Copy, PartialEq, Eq)]
 pub struct Judging {
-    /// Whether it is asked of each log by itself that its node makes it, with nothing judged of other nodes; else of all that they
-    /// are those of one legal run.
-    pub alone: bool,
+    /// As what they are judged.
+    pub scope: Scope,
     /// How it is told.
     pub form: Form,
 }
@@ -65,7 +75,7 @@ fn one_or_other(matches: &ArgMatches<'_>, report: Option<Report>) -> Option<Aske
 fn report_asked(matches: &ArgMatches<'_>, report: Report) -> Option<Asked>
     ensures { result ≡ report_asked (found_of matches.now) report }
 {
-    if is_given(matches, "alone") || way_in(matches, false)?.is_some() {
+    if !is_plain(scope_in(matches)) || way_in(matches, Scope::Run)?.is_some() {
         return None;
     }
     if count_of(matches, "LOG") == other_tables(report) {
@@ -75,19 +85,47 @@ fn report_asked(matches: &ArgMatches<'_>, report: Report) -> Option<Asked>
     }
 }
 
-/// What is asked of logs: the lines of a verdict where no word asks for another way of telling.
+/// What is asked of logs, of which there is one at least.
 fn logs_asked(matches: &ArgMatches<'_>) -> Option<Asked>
     ensures { result ≡ logs_asked (found_of matches.now) }
 {
-    let alone = is_given(matches, "alone");
     if count_of(matches, "LOG") == 0 {
         return None;
     }
-    match fitting(way_in(matches, alone)?)? {
+    asked_within(matches, scope_in(matches)?)
+}
+
+/// What is asked of logs in a scope: the lines of a verdict where no word asks for another way of telling.
+fn asked_within(matches: &ArgMatches<'_>, scope: Scope) -> Option<Asked>
+    ensures { result ≡ asked_within (found_of matches.now) scope }
+{
+    match fitting(way_in(matches, scope)?)? {
         Some(asked) => Some(asked),
         None => Some(Asked::Verdict(Judging {
-            alone,
+            scope,
             form: Form::Lines,
         })),
+    }
+}
+
+/// As what logs are judged. None where two words ask for two things.
+fn scope_in(matches: &ArgMatches<'_>) -> Option<Scope>
+    ensures { result ≡ scope_in (found_of matches.now) }
+{
+    match (is_given(matches, "alone"), is_given(matches, "days")) {
+        (false, false) => Some(Scope::Run),
+        (true, false) => Some(Scope::Each),
+        (false, true) => Some(Scope::Days),
+        (true, true) => None,
+    }
+}
+
+/// Whether no word says as what logs are judged.
+fn is_plain(scope: Option<Scope>) -> bool
+    ensures { result ≡ is_plain scope }
+{
+    match scope {
+        Some(Scope::Run) => true,
+        _ => false,
     }
 }

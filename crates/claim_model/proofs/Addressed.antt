@@ -15,12 +15,13 @@ use Rattle.claim_model.specs.Node.{Node, Pharmacy, Switch, Payer, Power, Up, AtR
 use Rattle.claim_model.specs.World.{World, Packet}
 use Rattle.claim_model.specs.Settings.{WorldSettings}
 use Rattle.claim_model.specs.Held.{journal_in, asked, decided}
+use Rattle.claim_model.specs.Carried.{Carries, IsVouched}
 use Rattle.claim_model.proofs.Lists.{all_map}
 use Rattle.claim_model.proofs.Options.{same_ok, cond_ok, cond_ok_not}
 use Rattle.claim_model.proofs.Journals.{submitted_enters, submitted_is, heard_is}
-use Rattle.claim_model.proofs.Sound.{SoundSlot, SoundSwitch, Carries, Sound}
+use Rattle.claim_model.proofs.Sound.{SoundSlot, SoundSwitch, Sound}
 use Rattle.claim_model.proofs.Decided.{origin, decided_unrouted}
-use Rattle.claim_model.proofs.PharmacyStep.{carries_reads, Kept_sound, done_same, after_submit_done, after_hearing_done}
+use Rattle.claim_model.proofs.PharmacyStep.{carries_reads, done_same, after_submit_done, after_hearing_done}
 use Rattle.claim_model.proofs.SwitchStep.{request_says, slot_found}
 use Rattle.claim_model.proofs.PayerStep.{after_answer_done, takes_parts, asked_first}
 use Rattle.claim_model.proofs.Phases.{IsThere, Phases, HasSwitches, first_fits, switch_at_there, due_there, ticked_phases, started_phases, entered_phases, settled_phases}
@@ -220,7 +221,7 @@ taken_out ctx given w m bytes c t next out false laws x there all e =
     response_out ctx given m c.envelope.id (responded ctx t c.envelope) next out (λ q h. let s = responded_same ctx t c.envelope q h in response_for ctx given w m bytes c q.bytes laws s.0 s.1) e
 
 pub switch_sends : (ctx : Context) (given : WorldSettings) (w : World) (m : ℕ) (s next : Power Table ℕ) (call : Call) (out : List Sent) → Laws ctx → Sound ctx given w → IsThere m (length given.switches) → SoundSwitch ctx w s
-    → Rattle.claim_model.proofs.PharmacyStep.SoundCall ctx w call → switch_step ctx s call ≡ Done next out → AllByRecursion (SentWell ctx given (Switch m)) out
+    → IsVouched ctx w call → switch_step ctx s call ≡ Done next out → AllByRecursion (SentWell ctx given (Switch m)) out
 switch_sends ctx given w m (Up t) next (Take from bytes) out laws x there all c e =
     taken_out ctx given w m bytes c t next out (is_request c.envelope) laws x there all (ap (switch_takes ctx t) (sym (carries_reads ctx w bytes laws c)) ∙ e)
 switch_sends ctx given w m (Up t) next Stop out laws x there all c e = subst (AllByRecursion (SentWell ctx given (Switch m))) (done_same (AtRest t.cap) next [] out e).1 tt
@@ -257,7 +258,7 @@ adjudicated_out ctx given w n b advice from bytes next out laws c for_it e =
     let d = after_answer_done ctx from c.envelope.id (answered ctx b advice c.envelope.id c.envelope.payload) next out t.1 in
     subst (AllByRecursion (SentWell ctx given (Payer n))) d.3 (from_switch ctx given n from (ctx.envelope (answer_envelope c.envelope.id d.0.bytes)) (for_it c.envelope r).1, tt)
 
-pub payer_sends : (ctx : Context) (given : WorldSettings) (w : World) (n : ℕ) (s next : Power Book Book) (call : Call) (out : List Sent) → Laws ctx → Rattle.claim_model.proofs.PharmacyStep.SoundCall ctx w call → CallIsFor ctx given (Payer n) call
+pub payer_sends : (ctx : Context) (given : WorldSettings) (w : World) (n : ℕ) (s next : Power Book Book) (call : Call) (out : List Sent) → Laws ctx → IsVouched ctx w call → CallIsFor ctx given (Payer n) call
     → payer_step ctx s call ≡ Done next out → AllByRecursion (SentWell ctx given (Payer n)) out
 payer_sends ctx given w n (Up b) next (Take from bytes) out laws c for_it e = adjudicated_out ctx given w n b unadvised from bytes next out laws c for_it e
 payer_sends ctx given w n (Up b) next (Adjudicate from bytes advice) out laws c for_it e =

@@ -23,11 +23,11 @@ ReadableIsCarried = (text : List ℕ) (h : RequestHeader) → readable_header te
 -- a ruling that the model writes is one that the profile's constructors make
 made : (r : Ruling) → IsRuling r → IsConstructible r
 made (Paid auth prescription m) is =
-    ((omega (arith, is.0.payer), is.0.payer_fits, omega (arith, is.0.serial), is.0.serial_fits), is.1, record { cost = is.2.cost; fee = is.2.fee; copay = is.2.copay; total = is.2.total; sum = is.2.sum })
+    ((omega (arith, is.0.payer), is.0.payer_fits, omega (arith, is.0.serial), is.0.serial_fits), is.1, record { cost = is.2.cost; fee = is.2.fee; copay = is.2.copay; total = is.2.total })
 made (Duplicate auth prescription m) is =
-    ((omega (arith, is.0.payer), is.0.payer_fits, omega (arith, is.0.serial), is.0.serial_fits), is.1, record { cost = is.2.cost; fee = is.2.fee; copay = is.2.copay; total = is.2.total; sum = is.2.sum })
+    ((omega (arith, is.0.payer), is.0.payer_fits, omega (arith, is.0.serial), is.0.serial_fits), is.1, record { cost = is.2.cost; fee = is.2.fee; copay = is.2.copay; total = is.2.total })
 made (Reversed auth prescription) is = ((omega (arith, is.0.payer), is.0.payer_fits, omega (arith, is.0.serial), is.0.serial_fits), is.1)
-made (Rejected rejects) is = (omega (arith, is.some), is.few)
+made (Rejected rejects) is = (omega (arith, is.some), is.few, is.each)
 
 all_made : (rulings : List Ruling) → AllByRecursion IsRuling rulings → AllByRecursion IsConstructible rulings
 all_made [] all = tt

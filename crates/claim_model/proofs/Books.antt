@@ -73,7 +73,7 @@ moved_ledger ctx b after (Adds advice id request is) l = subst (BookLedger ctx) 
 abbrev pub Ledgers : Context → World → Type 0
 Ledgers ctx w = (n : ℕ) (s : Power Book Book) → numbered w.payers n ≡ Some s → BookLedger ctx (book_in s)
 
-step_ledgers : (ctx : Context) (w v : World) (call : Call) → Step ctx w v call → Ledgers ctx w → Ledgers ctx v
+pub step_ledgers : (ctx : Context) (w v : World) (call : Call) → Step ctx w v call → Ledgers ctx w → Ledgers ctx v
 step_ledgers ctx w v call (At_pharmacy n s next sent is e f) l = subst (Ledgers ctx) (sym f) l
 step_ledgers ctx w v call (At_switch n s next sent is e f) l = subst (Ledgers ctx) (sym f) l
 step_ledgers ctx w v call (At_payer n s next sent is e f) l =
@@ -89,7 +89,7 @@ pub run_ledgers : (ctx : Context) (w : World) (events : List Event) → Ledgers 
 run_ledgers ctx w [] l = l
 run_ledgers ctx w (event ∷ events) l = run_ledgers ctx (world_after w (step ctx w event)) events (outcome_ledgers ctx w event (step ctx w event) refl l)
 
-opening_ledgers : (ctx : Context) (given : WorldSettings) → Ledgers ctx (opening given)
+pub opening_ledgers : (ctx : Context) (given : WorldSettings) → Ledgers ctx (opening given)
 opening_ledgers ctx given zero s e = absurd cc
 opening_ledgers ctx given (suc k) s e =
     let r = payer_opens 1 given.payers k s e in

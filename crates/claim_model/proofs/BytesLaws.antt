@@ -1,5 +1,5 @@
 -- The reading of bytes by the crates below keeps the laws.
-use Rattle.std.proofs.Common.{◌≡◌, ℕ, ℤ, pos, negsuc, suc, ◌+◌, ◌-◌, ◌^◌, ◌<◌, ◌≤◌, min, Bool, true, false, ◌==◌, cond, List, [], ◌∷◌, map, drop, length, Option, Some, None, Result, Ok, Err, refl, sym, ap, ◌∙◌, subst, arith, ◌⊎◌, inl, inr, eqb-true, length-take, length-drop}
+use Rattle.std.proofs.Common.{◌≡◌, ℕ, ℤ, pos, negsuc, zero, suc, ◌+◌, ◌-◌, ◌^◌, ◌<◌, ◌≤◌, min, Bool, true, false, ◌==◌, cond, List, [], ◌∷◌, map, take, drop, length, Option, Some, None, Result, Ok, Err, refl, sym, ap, ◌∙◌, subst, arith, ◌⊎◌, inl, inr, eqb-true, length-take, length-drop}
 use Rattle.std.specs.Prelude.{option_map, codes, is_none, is_some}
 use Rattle.std.specs.List.{AllByRecursion}
 use Rattle.std.specs.Result.{result_ok}
@@ -18,6 +18,7 @@ use Rattle.envelope.specs.Opening.{envelope_of}
 use Rattle.bin_routes.specs.Table.{RouteMaps, payer_of, payer_under}
 use Rattle.claim_profile.specs.declared.reject.Code.TheVariants as code
 use Rattle.claim_profile.specs.Reject.{held, first_five_held}
+use Rattle.claim_profile.specs.Ruling.{IsCode}
 use Rattle.claim_profile.specs.Fields.{values_in, texts_in, required, optional}
 use Rattle.claim_profile.specs.Order.{number_up_to, not_negative, amount_in_cents, the_text, prescription_in, claim_fields, reversal_fields, claim_of, claim_codes, reversal_of, reversal_codes, or_rejected, claim_order, reversal_order, order_as, order_of}
 use Rattle.claim_profile.specs.Readable.{readable_header}
@@ -29,7 +30,7 @@ use Rattle.plan_rules.specs.Prices.{price_of}
 use Rattle.plan_rules.specs.Pricing.{amounts_at, paid, worth}
 use Rattle.claim_model.specs.Words.{Amounts, Claim, Reversal, Bills, Reverses, Code, RequestHeader, Kind, Envelope, Plan, Answer, RouteKey}
 use Rattle.claim_model.specs.Readable.{readable, billing_code, reversal_code}
-use Rattle.claim_model.specs.Laws.{IsEnvelope, IsPrescription, IsClaimOf, IsReversalOf, IsRejects, IsOrderOf, IsAmounts, AdvisesWell, AnswersReadBack, Laws}
+use Rattle.claim_model.specs.Laws.{IsEnvelope, IsPrescription, IsClaimOf, IsReversalOf, IsRejects, IsOrderOf, IsAmounts, AdvisesWell, SaysSame, AnswersReadBack, Laws}
 use Rattle.claim_model.specs.Bytes.{order_in, orders_in, envelope_in, bytes_with}
 use Rattle.claim_model.proofs.Options.{map_some, then_some, same_some}
 use Rattle.claim_model.proofs.Tests.{readable_parts}
@@ -181,8 +182,18 @@ reversal_is numbers h group v code e =
 
 -- codes of an order that does not read
 
-rejects_held : (cs : List (Bool × Code)) → 0 < length (held cs) → IsRejects (first_five_held cs)
-rejects_held cs h = record { some = omega (arith, length-take 5 (held cs), h); few = omega (arith, length-take 5 (held cs)) }
+are_held : (cs : List (Bool × Code)) → AllByRecursion (λ (c : Bool × Code). IsCode c.1) cs → AllByRecursion IsCode (held cs)
+are_held [] are = tt
+are_held ((true, c) ∷ cs) are = (are.0, are_held cs are.1)
+are_held ((false, c) ∷ cs) are = are_held cs are.1
+
+are_first : (n : ℕ) (cs : List Code) → AllByRecursion IsCode cs → AllByRecursion IsCode (take n cs)
+are_first zero cs are = tt
+are_first (suc n) [] are = tt
+are_first (suc n) (c ∷ cs) are = (are.0, are_first n cs are.1)
+
+rejects_held : (cs : List (Bool × Code)) → AllByRecursion (λ (c : Bool × Code). IsCode c.1) cs → 0 < length (held cs) → IsRejects (first_five_held cs)
+rejects_held cs are h = record { some = omega (arith, length-take 5 (held cs), h); few = omega (arith, length-take 5 (held cs)); each = are_first 5 (held cs) (are_held cs are) }
 
 abbrev claim_conditions : (a b : Option (List ℕ)) (p n : Option ℕ) (d : Option (List ℕ)) (q x y : Option ℕ) → List (Bool × Code)
 claim_conditions a b p n d q x y =
@@ -195,21 +206,21 @@ claim_rejects : (h : RequestHeader) (a b : Option (List ℕ)) (p n : Option ℕ)
     → claim_of h (record { cardholder = a; date = b; prescription = p; fill = n; product = d; quantity = q; cost = x; fee = y }) ≡ None
     → IsRejects (claim_codes (record { cardholder = a; date = b; prescription = p; fill = n; product = d; quantity = q; cost = x; fee = y }))
 unfolding claim_of claim_codes
-claim_rejects h None b p n d q x y e = rejects_held (claim_conditions None b p n d q x y) (omega arith)
-claim_rejects h (Some a) None p n d q x y e = rejects_held (claim_conditions (Some a) None p n d q x y) (omega arith)
-claim_rejects h (Some a) (Some b) None n d q x y e = rejects_held (claim_conditions (Some a) (Some b) None n d q x y) (omega arith)
-claim_rejects h (Some a) (Some b) (Some p) None d q x y e = rejects_held (claim_conditions (Some a) (Some b) (Some p) None d q x y) (omega arith)
-claim_rejects h (Some a) (Some b) (Some p) (Some n) None q x y e = rejects_held (claim_conditions (Some a) (Some b) (Some p) (Some n) None q x y) (omega arith)
-claim_rejects h (Some a) (Some b) (Some p) (Some n) (Some d) None x y e = rejects_held (claim_conditions (Some a) (Some b) (Some p) (Some n) (Some d) None x y) (omega arith)
-claim_rejects h (Some a) (Some b) (Some p) (Some n) (Some d) (Some q) None y e = rejects_held (claim_conditions (Some a) (Some b) (Some p) (Some n) (Some d) (Some q) None y) (omega arith)
-claim_rejects h (Some a) (Some b) (Some p) (Some n) (Some d) (Some q) (Some x) None e = rejects_held (claim_conditions (Some a) (Some b) (Some p) (Some n) (Some d) (Some q) (Some x) None) (omega arith)
+claim_rejects h None b p n d q x y e = rejects_held (claim_conditions None b p n d q x y) (refl, (refl, (refl, (refl, (refl, (refl, (refl, (refl, tt)))))))) (omega arith)
+claim_rejects h (Some a) None p n d q x y e = rejects_held (claim_conditions (Some a) None p n d q x y) (refl, (refl, (refl, (refl, (refl, (refl, (refl, (refl, tt)))))))) (omega arith)
+claim_rejects h (Some a) (Some b) None n d q x y e = rejects_held (claim_conditions (Some a) (Some b) None n d q x y) (refl, (refl, (refl, (refl, (refl, (refl, (refl, (refl, tt)))))))) (omega arith)
+claim_rejects h (Some a) (Some b) (Some p) None d q x y e = rejects_held (claim_conditions (Some a) (Some b) (Some p) None d q x y) (refl, (refl, (refl, (refl, (refl, (refl, (refl, (refl, tt)))))))) (omega arith)
+claim_rejects h (Some a) (Some b) (Some p) (Some n) None q x y e = rejects_held (claim_conditions (Some a) (Some b) (Some p) (Some n) None q x y) (refl, (refl, (refl, (refl, (refl, (refl, (refl, (refl, tt)))))))) (omega arith)
+claim_rejects h (Some a) (Some b) (Some p) (Some n) (Some d) None x y e = rejects_held (claim_conditions (Some a) (Some b) (Some p) (Some n) (Some d) None x y) (refl, (refl, (refl, (refl, (refl, (refl, (refl, (refl, tt)))))))) (omega arith)
+claim_rejects h (Some a) (Some b) (Some p) (Some n) (Some d) (Some q) None y e = rejects_held (claim_conditions (Some a) (Some b) (Some p) (Some n) (Some d) (Some q) None y) (refl, (refl, (refl, (refl, (refl, (refl, (refl, (refl, tt)))))))) (omega arith)
+claim_rejects h (Some a) (Some b) (Some p) (Some n) (Some d) (Some q) (Some x) None e = rejects_held (claim_conditions (Some a) (Some b) (Some p) (Some n) (Some d) (Some q) (Some x) None) (refl, (refl, (refl, (refl, (refl, (refl, (refl, (refl, tt)))))))) (omega arith)
 claim_rejects h (Some a) (Some b) (Some p) (Some n) (Some d) (Some q) (Some x) (Some y) e = absurd cc
 
 reversal_rejects : (h : RequestHeader) (b : Option (List ℕ)) (p : Option ℕ) (n : Option (Option ℕ)) → reversal_of h (record { date = b; prescription = p; fill = n }) ≡ None → IsRejects (reversal_codes (record { date = b; prescription = p; fill = n }))
 unfolding reversal_of reversal_codes
-reversal_rejects h None p n e = rejects_held (reversal_conditions None p n) (omega arith)
-reversal_rejects h (Some b) None n e = rejects_held (reversal_conditions (Some b) None n) (omega arith)
-reversal_rejects h (Some b) (Some p) None e = rejects_held (reversal_conditions (Some b) (Some p) None) (omega arith)
+reversal_rejects h None p n e = rejects_held (reversal_conditions None p n) (refl, (refl, (refl, tt))) (omega arith)
+reversal_rejects h (Some b) None n e = rejects_held (reversal_conditions (Some b) None n) (refl, (refl, (refl, tt))) (omega arith)
+reversal_rejects h (Some b) (Some p) None e = rejects_held (reversal_conditions (Some b) (Some p) None) (refl, (refl, (refl, tt))) (omega arith)
 reversal_rejects h (Some b) (Some p) (Some n) e = absurd cc
 
 claim_order_is : NumbersInRange → AmountsInRange → (h : RequestHeader) (shared group : List SegmentParts) (o : Option Claim) → h.code ≡ billing_code → claim_of h (claim_fields h shared group) ≡ o
@@ -228,7 +239,7 @@ order_by_code : NumbersInRange → AmountsInRange → (h : RequestHeader) (share
 unfolding claim_order reversal_order
 order_by_code numbers amounts h shared group (Some transaction.Billing) is = claim_order_is numbers amounts h shared group (claim_of h (claim_fields h shared group)) (only h.code transaction.Billing is) refl
 order_by_code numbers amounts h shared group (Some transaction.Reversal) is = reversal_order_is numbers h group (reversal_of h (reversal_fields h group)) (only h.code transaction.Reversal is) refl
-order_by_code numbers amounts h shared group None is = record { some = omega arith; few = omega arith }
+order_by_code numbers amounts h shared group None is = record { some = omega arith; few = omega arith; each = (refl, tt) }
 
 order_is : NumbersInRange → AmountsInRange → (h : RequestHeader) (shared group : List SegmentParts) → IsOrderOf h (order_in (order_of h shared group))
 unfolding order_of
@@ -250,22 +261,25 @@ orders_are numbers amounts routes text h e =
 
 amounts_fit : (fee plan_fee cost worth' copay : ℕ) → fee ≤ 99999999
     → let f = min fee plan_fee in let c = min (min cost worth') (99999999 - f) in let p = min copay (c + f) in
-    (c ≤ 99999999) × (f ≤ 99999999) × (p ≤ 99999999) × (c + f - p ≤ 99999999) × (c + f - p + p ≡ c + f)
-amounts_fit fee plan_fee cost worth' copay h = (omega arith, omega arith, omega arith, omega arith, omega arith)
+    (c ≤ 99999999) × (f ≤ 99999999) × (p ≤ 99999999) × (c + f - p ≤ 99999999)
+amounts_fit fee plan_fee cost worth' copay h = (omega arith, omega arith, omega arith, omega arith)
 
 pub prices_fit : (plan : Plan) (h : RequestHeader) (c : Claim) (amounts : Amounts) → IsClaimOf h c → paid plan c ≡ Some amounts → IsAmounts amounts
 prices_fit plan h c amounts of_it e =
     let p = map_some (amounts_at plan c) (price_of plan.prices c.product) amounts e in
     let f = amounts_fit c.fee plan.fee c.cost (worth c.quantity p.0) plan.copay of_it.fee in
-    subst IsAmounts p.2 (record { cost = f.0; fee = f.1; copay = f.2; total = f.3; sum = f.4 })
+    subst IsAmounts p.2 (record { cost = f.0; fee = f.1; copay = f.2; total = f.3 })
 
 -- a request has the payer of its key, or none
 abbrev pub NumbersAreLed : Type 0
 NumbersAreLed = (routes : RouteMaps) (number : ℕ) (key : RouteKey) (payer : ℕ) → payer_under routes number key ≡ Some payer → payer_of routes key ≡ Some payer
 
 pub bytes_laws : EnvelopesReadBack → NumbersInRange → AmountsInRange → (routes : RouteMaps) → AnswersReadBack (bytes_with routes)
-    → ((bytes : List ℕ) (a : Answer) → (bytes_with routes).read_answer bytes ≡ Some a → AdvisesWell a.rulings) → NumbersAreLed → Laws (bytes_with routes)
-bytes_laws envelopes numbers amounts routes answers sayings led =
+    → ((bytes : List ℕ) (a : Answer) → (bytes_with routes).read_answer bytes ≡ Some a → AdvisesWell a.rulings)
+    → ((bytes : List ℕ) (a : Answer) → (bytes_with routes).read_advice bytes ≡ Some a → AdvisesWell a.rulings)
+    → ((bytes : List ℕ) (a : Answer) → (bytes_with routes).read_answer bytes ≡ Some a → (advice : Answer) × ((bytes_with routes).read_advice bytes ≡ Some advice) × SaysSame advice.rulings a.rulings)
+    → NumbersAreLed → Laws (bytes_with routes)
+bytes_laws envelopes numbers amounts routes answers sayings advices advised led =
     record {
       envelopes = envelopes_read envelopes routes;
       groups = groups_counted routes;
@@ -273,6 +287,8 @@ bytes_laws envelopes numbers amounts routes answers sayings led =
       prices = prices_fit;
       answers = answers;
       sayings = sayings;
+      advices = advices;
+      advised = advised;
       routes = λ m n key p q at_m at_n. same_some p q (sym (led routes m key p at_m) ∙ led routes n key q at_n);
     }
 

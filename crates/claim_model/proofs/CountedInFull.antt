@@ -20,9 +20,9 @@ use Rattle.claim_model.proofs.Options.{same_some}
 use Rattle.claim_model.proofs.Tests.{auth_same, auth_self}
 use Rattle.claim_model.proofs.Sound.{Sound}
 use Rattle.claim_model.proofs.Held.{book_sound}
-use Rattle.claim_model.proofs.Runs.{reached_sound}
 use Rattle.claim_model.proofs.Ledger.{Given, Reversing}
-use Rattle.claim_model.proofs.Books.{BookLedger, Ledgers, reached_ledgers}
+use Rattle.claim_model.proofs.Books.{BookLedger, Ledgers}
+use Rattle.claim_model.proofs.Firm.{Firm, reached_firm}
 use Rattle.claim_model.proofs.Owners.{ledger_at, names_reversed}
 use Rattle.claim_model.proofs.Counting.{HeardAt, all_heard, reverses_ruling}
 
@@ -112,20 +112,21 @@ not_reversed ctx given w n auth b p x l there found stands r (inr k, here) =
     let same : u.payment ≡ p = same_some _ _ (sym u.found ∙ (ap (λ (y : Book). payment_of auth (ruled_rows ctx y.rows)) book ∙ found)) in
     both_ways (is_standing p) (subst (λ (y : Payment). is_standing y ≡ false) same u.reversed) stands)
 
-is_counted : (ctx : Context) (given : WorldSettings) (w : World) (n : ℕ) (j : JournalAtRest) (k : ℕ) (r : Ruled) (c : Counted) (b : Book) (p : Payment) → Reached ctx given w → journal_at w n ≡ Some j → numbered (told ctx j) k ≡ Some r
+is_counted : (ctx : Context) (given : WorldSettings) (w : World) (n : ℕ) (j : JournalAtRest) (k : ℕ) (r : Ruled) (c : Counted) (b : Book) (p : Payment) → Firm ctx given w → journal_at w n ≡ Some j → numbered (told ctx j) k ≡ Some r
     → named r ≡ Some c → book_at w c.auth.payer ≡ Some b → payment_of c.auth (ruled_rows ctx b.rows) ≡ Some p → is_standing p ≡ true → IsCounted ctx j c.auth
 unfolding counted
-is_counted ctx given w n j k r c b p reached there at is book found stands =
-    let x : Sound ctx given w = reached_sound ctx given w reached in
-    let l : Ledgers ctx w = reached_ledgers ctx given w reached in
+is_counted ctx given w n j k r c b p firm there at is book found stands =
     let rs : List Ruled = told ctx j in
     let free : list_any (reverses c.auth) rs ≡ false =
-    none_any (reverses c.auth) rs (all_weaker (HeardAt ctx w n) (λ (q : Ruled). reverses c.auth q ≡ false) (not_reversed ctx given w n c.auth b p x l book found stands) rs (all_heard ctx given w n j reached.laws x l there)) in
+    none_any (reverses c.auth) rs (all_weaker (HeardAt ctx w n) (λ (q : Ruled). reverses c.auth q ≡ false) (not_reversed ctx given w n c.auth b p firm.sound firm.ledgers book found stands) rs (all_heard ctx given w n j firm.laws firm.sound firm.ledgers there)) in
     let left : (d : Counted) → is_of c.auth d ≡ true → not (is_reversed rs d) ≡ true =
     λ d h. ap not (ap (λ (a : Auth). list_any (reverses a) rs) (auth_same d.auth c.auth h) ∙ free) in
     let s = any_stands (is_of c.auth) (filter (λ (d : Counted). not (is_reversed rs d)) (firsts (filter_map named rs)))
     (any_left (is_of c.auth) (λ (d : Counted). not (is_reversed rs d)) (firsts (filter_map named rs)) left (any_first c.auth (filter_map named rs) (named_numbered rs k r c at is))) in
     record { number = suc s.0; payment = s.1; stands = s.2; same = auth_same s.1.auth c.auth s.3 }
 
+pub firm_standing_counted : (ctx : Context) (given : WorldSettings) (w : World) → Firm ctx given w → StandingAreCounted ctx w
+firm_standing_counted ctx given w firm = record { counted = λ n j k r c b p there at is book found stands. is_counted ctx given w n j k r c b p firm there at is book found stands }
+
 pub standing_counted : (ctx : Context) (given : WorldSettings) (w : World) → Reached ctx given w → StandingAreCounted ctx w
-standing_counted ctx given w reached = record { counted = λ n j k r c b p there at is book found stands. is_counted ctx given w n j k r c b p reached there at is book found stands }
+standing_counted ctx given w r = firm_standing_counted ctx given w (reached_firm ctx given w r)

@@ -27,10 +27,10 @@ use Rattle.claim_model.proofs.Providers.{one_pharmacy}
 use Rattle.claim_model.proofs.Sound.{id_at, SoundEntry, SoundJournal, SoundRow, Sound}
 use Rattle.claim_model.proofs.Decided.{Origin, From, Row_of, Fixed, origin, row_there}
 use Rattle.claim_model.proofs.Held.{journal_sound, book_sound}
-use Rattle.claim_model.proofs.Runs.{reached_sound}
 use Rattle.claim_model.proofs.Marks.{Reverser, HasReverser, payments_reversers}
 use Rattle.claim_model.proofs.Ledger.{Names, Named_in, PaidFor, Given}
-use Rattle.claim_model.proofs.Books.{BookLedger, Ledgers, reached_ledgers}
+use Rattle.claim_model.proofs.Books.{BookLedger, Ledgers}
+use Rattle.claim_model.proofs.Firm.{Firm, reached_firm}
 use Rattle.claim_model.proofs.Owners.{Source, sources, ledger_at, Asker, asker, OwnReversal, own_reversal}
 
 -- lists
@@ -310,25 +310,25 @@ open_by ctx w n m b j r auth e (Some a) laws s there number here stands request 
     absurd (both_ways (list_any (reverses auth) (told ctx j)) free (any_told_numbered ctx (reverses auth) j.number j.entries r.id.number e stands any''))
 
 -- each ruling that reverses a payment that is counted is of an id that is held open
-open_reverser : (ctx : Context) (given : WorldSettings) (w : World) (n : ℕ) (j : JournalAtRest) (c : Counted) (k : ℕ) (r : Ruled) → Reached ctx given w → Sound ctx given w → Ledgers ctx w → journal_at w n ≡ Some j → (p : Paid_to ctx w n j c)
+open_reverser : (ctx : Context) (given : WorldSettings) (w : World) (n : ℕ) (j : JournalAtRest) (c : Counted) (k : ℕ) (r : Ruled) → Firm ctx given w → journal_at w n ≡ Some j → (p : Paid_to ctx w n j c)
     → is_reversed (told ctx j) c ≡ false → numbered (ruled_rows ctx p.book.rows) k ≡ Some r → reverses c.auth r ≡ true → HeldOpen ctx n j r.id
-open_reverser ctx given w n j c k r reached x l there p free at reversing =
+open_reverser ctx given w n j c k r firm there p free at reversing =
     let rs : List Ruled = ruled_rows ctx p.book.rows in
     let g = reverses_ruling c.auth r.ruling reversing in
-    let o : OwnReversal ctx w c.auth.payer p.book r c.auth = own_reversal ctx given w c.auth.payer p.book k r c.auth g.0 reached.laws x l p.there at g.1 in
+    let o : OwnReversal ctx w c.auth.payer p.book r c.auth = own_reversal ctx given w c.auth.payer p.book k r c.auth g.0 firm.laws firm.sound firm.ledgers p.there at g.1 in
     let same : o.reversing.payment ≡ p.payment = same_some _ _ (sym o.reversing.found ∙ p.found) in
     let a : Asker ctx w r.id o.source.row.request o.source.sound.header = o.asker_is in
-    let theirs : SoundJournal ctx given w r.id.pharmacy a.journal = journal_sound ctx given w r.id.pharmacy a.journal x a.there in
-    let ours : SoundJournal ctx given w n j = journal_sound ctx given w n j x there in
+    let theirs : SoundJournal ctx given w r.id.pharmacy a.journal = journal_sound ctx given w r.id.pharmacy a.journal firm.sound a.there in
+    let ours : SoundJournal ctx given w n j = journal_sound ctx given w n j firm.sound there in
     let fill : o.reversing.payment.claim.fill ≡ c.fill = ap (λ (y : Payment). y.claim.fill) same ∙ p.fill in
     let qualifier : a.journal.settings.qualifier ≡ j.settings.qualifier = o.qualifier ∙ (ap (λ (y : Fill). y.qualifier) fill ∙ p.qualifier) in
     let provider : a.journal.settings.provider ≡ j.settings.provider = o.provider ∙ (ap (λ (y : Fill). y.provider) fill ∙ p.provider) in
-    let here : r.id.pharmacy ≡ n = one_pharmacy given.pharmacies r.id.pharmacy n a.journal.settings j.settings (passed given reached.accepts.no_fault).providers theirs.settings ours.settings qualifier provider in
+    let here : r.id.pharmacy ≡ n = one_pharmacy given.pharmacies r.id.pharmacy n a.journal.settings j.settings (passed given firm.accepts.no_fault).providers theirs.settings ours.settings qualifier provider in
     let journal : a.journal ≡ j = same_some _ _ (sym a.there ∙ (ap (journal_at w) here ∙ there)) in
     let stands : numbered j.entries r.id.number ≡ Some a.entry = subst (λ (y : JournalAtRest). numbered y.entries r.id.number ≡ Some a.entry) journal a.stands in
     let sound : SoundEntry ctx w j.settings (id_at n r.id.number) a.entry = ours.entries r.id.number a.entry stands in
     let is_open : a.entry.answer ≡ None =
-    open_by ctx w n c.auth.payer p.book j r c.auth a.entry a.entry.answer reached.laws o.source p.there ours.number here stands a.request_is
+    open_by ctx w n c.auth.payer p.book j r c.auth a.entry a.entry.answer firm.laws o.source p.there ours.number here stands a.request_is
     (λ b h. subst (λ (m : ℕ). decided ctx w (id_at m r.id.number) ≡ Some b) (sym here) (sound.answer b h)) reversing free refl in
     record {
       of_it = here;
@@ -340,22 +340,20 @@ open_reverser ctx given w n j c k r reached x l there p free at reversing =
       is_open = is_open;
     }
 
-held_open : (ctx : Context) (given : WorldSettings) (w : World) (n : ℕ) (j : JournalAtRest) (c : Counted) (id : TxnId) → Reached ctx given w → Sound ctx given w → Ledgers ctx w → journal_at w n ≡ Some j → (p : Paid_to ctx w n j c)
+held_open : (ctx : Context) (given : WorldSettings) (w : World) (n : ℕ) (j : JournalAtRest) (c : Counted) (id : TxnId) → Firm ctx given w → journal_at w n ≡ Some j → (p : Paid_to ctx w n j c)
     → is_reversed (told ctx j) c ≡ false → p.payment.reversed_by ≡ Some id → HeldOpen ctx n j id
-held_open ctx given w n j c id reached x l there p free e =
+held_open ctx given w n j c id firm there p free e =
     let rs : List Ruled = ruled_rows ctx p.book.rows in
     let v : Reverser rs p.payment.auth id = find_all (HasReverser rs) _ (payments rs) p.payment (payments_reversers rs) p.found id e in
     let auth : p.payment.auth ≡ c.auth = auth_same _ _ (find_passes _ (payments rs) p.payment p.found) in
     subst (HeldOpen ctx n j) v.same
-    (open_reverser ctx given w n j c v.number v.ruled reached x l there p free v.stands (subst (λ (y : Auth). reverses y v.ruled ≡ true) auth v.reversing))
+    (open_reverser ctx given w n j c v.number v.ruled firm there p free v.stands (subst (λ (y : Auth). reverses y v.ruled ≡ true) auth v.reversing))
 
-all_counted : (ctx : Context) (given : WorldSettings) (w : World) (n : ℕ) (j : JournalAtRest) → Reached ctx given w → journal_at w n ≡ Some j → AllByRecursion (StandsOrReversed ctx w n j) (counted ctx j)
+all_counted : (ctx : Context) (given : WorldSettings) (w : World) (n : ℕ) (j : JournalAtRest) → Firm ctx given w → journal_at w n ≡ Some j → AllByRecursion (StandsOrReversed ctx w n j) (counted ctx j)
 unfolding counted
-all_counted ctx given w n j reached there =
-    let x : Sound ctx given w = reached_sound ctx given w reached in
-    let l : Ledgers ctx w = reached_ledgers ctx given w reached in
+all_counted ctx given w n j firm there =
     let named_all : AllByRecursion (Paid_to ctx w n j) (filter_map named (told ctx j)) =
-    all_named (Paid_to ctx w n j) (HeardAt ctx w n) (λ r c h e. heard_paid ctx given w n j r c reached.laws x l there h e) (told ctx j) (all_heard ctx given w n j reached.laws x l there) in
+    all_named (Paid_to ctx w n j) (HeardAt ctx w n) (λ r c h e. heard_paid ctx given w n j r c firm.laws firm.sound firm.ledgers there h e) (told ctx j) (all_heard ctx given w n j firm.laws firm.sound firm.ledgers there) in
     all_passing (Paid_to ctx w n j) (StandsOrReversed ctx w n j) (λ (c : Counted). not (is_reversed (told ctx j) c))
     (λ c p free. record {
       book = p.book;
@@ -364,11 +362,14 @@ all_counted ctx given w n j reached there =
       found = p.found;
       fill = p.fill;
       amounts = p.amounts;
-      reversed = λ id e. held_open ctx given w n j c id reached x l there p (not-true (is_reversed (told ctx j) c) free) e;
-      reversals = λ k r e h. open_reverser ctx given w n j c k r reached x l there p (not-true (is_reversed (told ctx j) c) free) e h;
+      reversed = λ id e. held_open ctx given w n j c id firm there p (not-true (is_reversed (told ctx j) c) free) e;
+      reversals = λ k r e h. open_reverser ctx given w n j c k r firm there p (not-true (is_reversed (told ctx j) c) free) e h;
     })
     (firsts (filter_map named (told ctx j))) (all_firsts (Paid_to ctx w n j) (filter_map named (told ctx j)) named_all)
 
+pub firm_counted_stand : (ctx : Context) (given : WorldSettings) (w : World) → Firm ctx given w → CountedPaymentsStand ctx w
+firm_counted_stand ctx given w firm =
+    record { counts = λ n j k c there e. all_at (StandsOrReversed ctx w n j) (counted ctx j) k c (all_counted ctx given w n j firm there) e }
+
 pub counted_stand : (ctx : Context) (given : WorldSettings) (w : World) → Reached ctx given w → CountedPaymentsStand ctx w
-counted_stand ctx given w reached =
-    record { counts = λ n j k c there e. all_at (StandsOrReversed ctx w n j) (counted ctx j) k c (all_counted ctx given w n j reached there) e }
+counted_stand ctx given w r = firm_counted_stand ctx given w (reached_firm ctx given w r)

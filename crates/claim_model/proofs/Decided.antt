@@ -58,7 +58,7 @@ length_replicate (ℕ.suc n) a = ap ℕ.suc (length_replicate n a)
 pub rejection_spells : (ctx : Context) (text : List ℕ) (h : RequestHeader) → Laws ctx → readable ctx text ≡ Some h → Spells ctx h (replicate h.count (Rejected (BadBin ∷ []))) (rejection ctx h)
 rejection_spells ctx text h laws r =
     laws.answers text h RejectedStatus (replicate h.count (Rejected (BadBin ∷ []))) r (length_replicate h.count _)
-    (all_replicate IsRuling h.count (Rejected (BadBin ∷ [])) (record { some = omega arith; few = omega arith }))
+    (all_replicate IsRuling h.count (Rejected (BadBin ∷ [])) (record { some = omega arith; few = omega arith; each = (refl, tt) }))
     (all_replicate IsRejected h.count (Rejected (BadBin ∷ [])) tt)
 
 pub row_spells : (ctx : Context) (text : List ℕ) (h : RequestHeader) (rulings : List Ruling) → Laws ctx → readable ctx text ≡ Some h → length rulings ≡ h.count → AllByRecursion IsRuling rulings

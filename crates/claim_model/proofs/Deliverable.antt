@@ -19,11 +19,12 @@ use Rattle.claim_model.specs.Node.{Node, Pharmacy, Switch, Payer, Power, Up, AtR
 use Rattle.claim_model.specs.World.{World, Packet, pharmacy_stepped, on_pharmacy, switch_stepped, on_switch, payer_stepped, on_payer, on_node, delivered, adjudicated, step}
 use Rattle.claim_model.specs.Settings.{WorldSettings}
 use Rattle.claim_model.specs.Held.{journal_in, book_in, journal_at, entry_of, asked, decided}
+use Rattle.claim_model.specs.Carried.{Carries}
 use Rattle.claim_model.specs.Promises.{Reached, asks_in, asks_at, is_asking, MayMeet, MayMeetAt, DeliveriesMeet, AdjudicationsMeet}
 use Rattle.claim_model.proofs.Lists.{all_at, find_all, find_passes, numbered_map, numbered_exists}
 use Rattle.claim_model.proofs.Options.{map_some, then_some, same_some}
 use Rattle.claim_model.proofs.Tests.{readable_parts, bytes_self, nat_self, id_same, payer_self}
-use Rattle.claim_model.proofs.Sound.{id_at, SoundJournal, SoundSlot, SoundSwitch, SoundRow, SoundBook, Carries, SoundPacket, Sound}
+use Rattle.claim_model.proofs.Sound.{id_at, SoundJournal, SoundSlot, SoundSwitch, SoundRow, SoundBook, SoundPacket, Sound}
 use Rattle.claim_model.proofs.Decided.{origin}
 use Rattle.claim_model.proofs.Held.{journal_sound}
 use Rattle.claim_model.proofs.PharmacyStep.{carries_reads}

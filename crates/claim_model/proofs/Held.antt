@@ -14,10 +14,11 @@ use Rattle.claim_model.specs.Node.{Node, Pharmacy, Switch, Payer, Power, Up, AtR
 use Rattle.claim_model.specs.World.{World, Event, run}
 use Rattle.claim_model.specs.Settings.{WorldSettings}
 use Rattle.claim_model.specs.Held.{journal_in, book_in, journal_at, book_at, entry_of, row_at, row_answer, decided, held_in_table, held_by, held, held_place}
+use Rattle.claim_model.specs.Carried.{Carries}
 use Rattle.claim_model.specs.Promises.{Reached, RequestsAreSubmitted, AnswersAreDecided, OneAnswer}
 use Rattle.claim_model.proofs.Lists.{all_at}
 use Rattle.claim_model.proofs.Options.{map_some, then_some, same_some}
-use Rattle.claim_model.proofs.Sound.{SoundJournal, SoundSlot, SoundSwitch, SoundRow, SoundBook, Carries, SoundPacket, Sound}
+use Rattle.claim_model.proofs.Sound.{SoundJournal, SoundSlot, SoundSwitch, SoundRow, SoundBook, SoundPacket, Sound, Later}
 use Rattle.claim_model.proofs.Decided.{row_there, decided_routed}
 use Rattle.claim_model.proofs.PharmacyStep.{carries_reads}
 use Rattle.claim_model.proofs.SwitchStep.{request_says, response_says, slot_found}
@@ -103,13 +104,11 @@ pub held_decided : (ctx : Context) (given : WorldSettings) (w : World) (node : N
 unfolding held
 held_decided ctx given w node id a x e = held_by_decided ctx given w node id a x e
 
-pub one_answer : (ctx : Context) (given : WorldSettings) (w : World) (events : List Event) → Reached ctx given w → OneAnswer ctx w (run ctx w events)
-one_answer ctx given w events r =
-    let x : Sound ctx given w = reached_sound ctx given w r in
-    let k = run_sound ctx given w events r.laws r.accepts x in
-    let v : World = run ctx w events in
+-- a sound world and a later one have one answer
+pub later_answers : (ctx : Context) (given : WorldSettings) (w v : World) → Sound ctx given w → Sound ctx given v → Later ctx w v → OneAnswer ctx w v
+later_answers ctx given w v x y later =
     let same : (a b : Node) (id : TxnId) (p q : List ℕ) → held ctx w a id ≡ Some p → held ctx v b id ≡ Some q → p ≡ q =
-    λ a b id p q e f. same_some p q (sym (k.later.decides id p (held_decided ctx given w a id p x e)) ∙ held_decided ctx given v b id q k.sound f) in
+    λ a b id p q e f. same_some p q (sym (later.decides id p (held_decided ctx given w a id p x e)) ∙ held_decided ctx given v b id q y f) in
     record { bytes = same; places = λ a b id place p q e f. same_places ctx w v a b id place p q (same a b id) e f }
   where
     same_places : (ctx : Context) (w v : World) (a b : Node) (id : TxnId) (place : ℕ) (p q : ResponseHeader × Ruling)
@@ -123,3 +122,9 @@ one_answer ctx given w events r =
         let bytes : s'.0 ≡ t'.0 = same s'.0 t'.0 s'.1 t'.1 in
         let answers : s.0 ≡ t.0 = same_some _ _ (sym s'.2 ∙ (ap ctx.read_answer bytes ∙ t'.2)) in
         same_some _ _ (sym s.2 ∙ (ap read answers ∙ t.2))
+
+pub one_answer : (ctx : Context) (given : WorldSettings) (w : World) (events : List Event) → Reached ctx given w → OneAnswer ctx w (run ctx w events)
+one_answer ctx given w events r =
+    let x : Sound ctx given w = reached_sound ctx given w r in
+    let k = run_sound ctx given w events r.laws r.accepts x in
+    later_answers ctx given w (run ctx w events) x k.sound k.later

@@ -17,6 +17,7 @@ pub mod Whole
 pub mod Marks
 pub mod Ledger
 pub mod Books
+pub mod Firm
 pub mod Owners
 pub mod Providers
 pub mod Counting
@@ -30,6 +31,7 @@ pub mod Advising
 mod Premises
 pub mod BytesLaws
 pub mod Sayings
+mod Advices
 pub mod Placeless
 pub mod AnswersBack
 pub mod Tabled

@@ -22,10 +22,10 @@ use Rattle.claim_model.proofs.Options.{map_some, then_some, same_some}
 use Rattle.claim_model.proofs.Tests.{bytes_same}
 use Rattle.claim_model.proofs.Sound.{id_at, SoundEntry, SoundRow, SoundBook, Sound}
 use Rattle.claim_model.proofs.Held.{journal_sound, book_sound}
-use Rattle.claim_model.proofs.Runs.{reached_sound}
 use Rattle.claim_model.proofs.Marks.{no_fill_twice_at}
 use Rattle.claim_model.proofs.Ledger.{Names, Named_in, Reversing}
-use Rattle.claim_model.proofs.Books.{BookLedger, Ledgers, reached_ledgers}
+use Rattle.claim_model.proofs.Books.{BookLedger, Ledgers}
+use Rattle.claim_model.proofs.Firm.{Firm, reached_firm}
 
 -- where a ruling stands: in a sound row, at a group whose order it answers
 pub record Source (ctx : Context) (w : World) (n : ℕ) (rows : List Row) (r : Ruled) : Type 0 where
@@ -102,23 +102,24 @@ same_key h c s =
 fill_routed : (ctx : Context) (n : ℕ) (p : Payment) (s : ClaimSource ctx n p) → ctx.route s.id.number (fill_key p.claim.fill) ≡ Some n
 fill_routed ctx n p s = ap (ctx.route s.id.number) (same_key s.header p.claim s.claim) ∙ s.routed
 
-pub one_standing : (ctx : Context) (given : WorldSettings) (w : World) → Reached ctx given w → OneStandingPayment ctx w
-one_standing ctx given w r =
-    let x : Sound ctx given w = reached_sound ctx given w r in
-    let l : Ledgers ctx w = reached_ledgers ctx given w r in
+pub firm_one_standing : (ctx : Context) (given : WorldSettings) (w : World) → Firm ctx given w → OneStandingPayment ctx w
+firm_one_standing ctx given w r =
     record {
       one = λ n m b c i j p q at_n at_m e f fill.
           let claims : (k : ℕ) (d : Book) → book_at w k ≡ Some d → AllByRecursion (ClaimSource ctx k) (standing (ruled_rows ctx d.rows)) =
           λ k d at. all_filter (ClaimSource ctx k) is_standing (payments (ruled_rows ctx d.rows))
-          (claim_sources ctx w k d.rows (ruled_rows ctx d.rows) (sources ctx given w k d r.laws (book_sound ctx given w k d x at))) in
+          (claim_sources ctx w k d.rows (ruled_rows ctx d.rows) (sources ctx given w k d r.laws (book_sound ctx given w k d r.sound at))) in
           let of_p : ClaimSource ctx n p = all_at (ClaimSource ctx n) (standing (ruled_rows ctx b.rows)) i p (claims n b at_n) e in
           let of_q : ClaimSource ctx m q = all_at (ClaimSource ctx m) (standing (ruled_rows ctx c.rows)) j q (claims m c at_m) f in
           let to_m = ap (λ (y : Fill). ctx.route of_q.id.number (fill_key y)) fill ∙ fill_routed ctx m q of_q in
           let same : n ≡ m = r.laws.routes of_p.id.number of_q.id.number (fill_key p.claim.fill) n m (fill_routed ctx n p of_p) to_m in
           let books : c ≡ b = same_some c b (sym at_m ∙ (ap (book_at w) (sym same) ∙ at_n)) in
           let f' : numbered (standing (ruled_rows ctx b.rows)) j ≡ Some q = subst (λ (y : Book). numbered (standing (ruled_rows ctx y.rows)) j ≡ Some q) books f in
-          (same, no_fill_twice_at (standing (ruled_rows ctx b.rows)) i j p q (ledger_at ctx w n b l at_n).fills e f' fill);
+          (same, no_fill_twice_at (standing (ruled_rows ctx b.rows)) i j p q (ledger_at ctx w n b r.ledgers at_n).fills e f' fill);
     }
+
+pub one_standing : (ctx : Context) (given : WorldSettings) (w : World) → Reached ctx given w → OneStandingPayment ctx w
+one_standing ctx given w r = firm_one_standing ctx given w (reached_firm ctx given w r)
 
 -- who asked for a request
 pub record Asker (ctx : Context) (w : World) (id : TxnId) (request : List ℕ) (h : RequestHeader) : Type 0 where
@@ -197,12 +198,13 @@ own_reversal ctx given w n b k r auth m laws x l at e is =
       provider = sym a.provider ∙ (sym of_it.provider ∙ bytes_same _ _ p₄.0);
     }
 
-pub reversed_by_owner : (ctx : Context) (given : WorldSettings) (w : World) → Reached ctx given w → ReversedByOwner ctx w
-reversed_by_owner ctx given w r =
-    let x : Sound ctx given w = reached_sound ctx given w r in
-    let l : Ledgers ctx w = reached_ledgers ctx given w r in
+pub firm_reversed_by_owner : (ctx : Context) (given : WorldSettings) (w : World) → Firm ctx given w → ReversedByOwner ctx w
+firm_reversed_by_owner ctx given w r =
     record {
       reversed = λ n b k ru auth m at e is.
-          let o : OwnReversal ctx w n b ru auth = own_reversal ctx given w n b k ru auth m r.laws x l at e is in
+          let o : OwnReversal ctx w n b ru auth = own_reversal ctx given w n b k ru auth m r.laws r.sound r.ledgers at e is in
           record { payment = o.reversing.payment; found = o.reversing.found; journal = o.asker_is.journal; there = o.asker_is.there; qualifier = o.qualifier; provider = o.provider };
     }
+
+pub reversed_by_owner : (ctx : Context) (given : WorldSettings) (w : World) → Reached ctx given w → ReversedByOwner ctx w
+reversed_by_owner ctx given w r = firm_reversed_by_owner ctx given w (reached_firm ctx given w r)

@@ -16,14 +16,15 @@ use Rattle.claim_model.specs.Node.{Node, Power, Up, AtRest, Sent, Call, Submit, 
 use Rattle.claim_model.specs.World.{World}
 use Rattle.claim_model.specs.Settings.{WorldSettings, Accepts}
 use Rattle.claim_model.specs.Held.{book_in, asked, row_at, decided}
+use Rattle.claim_model.specs.Carried.{Carries, IsVouched}
 use Rattle.claim_model.proofs.Lists.{numbered_put, find_append, find_beyond, find_passes, all_append, all_map, all_weaker}
 use Rattle.claim_model.proofs.Options.{same_some, same_ok, cond_ok}
 use Rattle.claim_model.proofs.Tests.{bytes_same, id_self, payer_same}
 use Rattle.claim_model.proofs.Given.{payer_given}
 use Rattle.claim_model.proofs.Written.{MayPay, rulings_written, length_rulings, rows_written}
-use Rattle.claim_model.proofs.Sound.{SoundRow, SoundBook, Carries, Sound, Later, RowsStay, with_payer, payer_later, row_later, sound_payer}
+use Rattle.claim_model.proofs.Sound.{SoundRow, SoundBook, Sound, Later, RowsStay, with_payer, payer_later, row_later, sound_payer}
 use Rattle.claim_model.proofs.Decided.{row_spells, decided_routed}
-use Rattle.claim_model.proofs.PharmacyStep.{SoundCall, carries_reads, Kept_sound, done_same}
+use Rattle.claim_model.proofs.PharmacyStep.{carries_reads, Kept_sound, done_same}
 use Rattle.claim_model.proofs.SwitchStep.{request_says}
 
 abbrev pub with_row : Book → Row → Book
@@ -220,9 +221,9 @@ unadvised_well place claimed v e = absurd (nothing place v e)
     nothing (suc k) v e = cc
 
 -- what an answer that is read advises can be written
-pub advises_well : (ctx : Context) → Laws ctx → (o : Option Answer) (advice : List ℕ) → ctx.read_answer advice ≡ o → AdvisesWell (rulings_in o)
+pub advises_well : (ctx : Context) → Laws ctx → (o : Option Answer) (advice : List ℕ) → ctx.read_advice advice ≡ o → AdvisesWell (rulings_in o)
 advises_well ctx laws None advice is = unadvised_well
-advises_well ctx laws (Some answer) advice is = laws.sayings advice answer is
+advises_well ctx laws (Some answer) advice is = laws.advices advice answer is
 
 takes_sound : (ctx : Context) (given : WorldSettings) (w : World) (n : ℕ) (b : Book) (advice : List Ruling) (from : Node) (bytes : List ℕ) (next : Power Book Book) (sent : List Sent)
     → AdvisesWell advice → Laws ctx → Accepts ctx given → Sound ctx given w → numbered w.payers n ≡ Some (Up b) → (c : Carries ctx w bytes) → payer_takes ctx b advice from (ctx.read_envelope bytes) ≡ Done next sent
@@ -235,11 +236,11 @@ takes_sound ctx given w n b advice from bytes next sent well laws accepts x is c
     (answer_step ctx given w n b advice from bytes c d.0 well laws accepts x is (request_says ctx w bytes c t.0) r r.rows)
 
 pub payer_sound : (ctx : Context) (given : WorldSettings) (w : World) (n : ℕ) (s next : Power Book Book) (call : Call) (sent : List Sent)
-    → Laws ctx → Accepts ctx given → Sound ctx given w → numbered w.payers n ≡ Some s → SoundCall ctx w call → payer_step ctx s call ≡ Done next sent
+    → Laws ctx → Accepts ctx given → Sound ctx given w → numbered w.payers n ≡ Some s → IsVouched ctx w call → payer_step ctx s call ≡ Done next sent
     → Kept_sound ctx given w (with_payer w n next sent)
 payer_sound ctx given w n (Up b) next (Take from bytes) sent laws accepts x is c e = takes_sound ctx given w n b unadvised from bytes next sent unadvised_well laws accepts x is c e
 payer_sound ctx given w n (Up b) next (Adjudicate from bytes advice) sent laws accepts x is c e =
-    takes_sound ctx given w n b (advice_in ctx advice) from bytes next sent (advises_well ctx laws (ctx.read_answer advice) advice refl) laws accepts x is c (asked_first b.settings.asks _ next sent e).1
+    takes_sound ctx given w n b (advice_in ctx advice) from bytes next sent (advises_well ctx laws (ctx.read_advice advice) advice refl) laws accepts x is c (asked_first b.settings.asks _ next sent e).1
 payer_sound ctx given w n (Up b) next Stop sent laws accepts x is c e =
     let d = done_same (AtRest b) next [] sent e in
     moved_payer ctx given w n (AtRest b) next [] sent d.0 d.1 (quiet_payer ctx given w n (Up b) (AtRest b) x is refl refl refl)

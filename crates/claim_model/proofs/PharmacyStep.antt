@@ -1,6 +1,6 @@
 -- A pharmacy's step keeps a world sound.
 use Rattle.std.proofs.Common.{◌≡◌, ℕ, ◌+◌, ◌≤◌, true, false, List, [], ◌∷◌, ◌++◌, map, length, Option, Some, None, Result, Ok, Err, refl, sym, ap, ◌∙◌, subst, inl, inr, arith, length-append}
-use Rattle.std.specs.Prelude.{option_map, option_and_then, ⊤}
+use Rattle.std.specs.Prelude.{option_map, option_and_then}
 use Rattle.std.proofs.lemmas.Bool.{cases_eq}
 use Rattle.claim_model.specs.Words.{TxnId, Kind, Request, Response}
 use Rattle.claim_model.specs.Context.{Context}
@@ -14,22 +14,13 @@ use Rattle.claim_model.specs.World.{World, packet_from}
 use Rattle.claim_model.specs.Limits.{most_entries}
 use Rattle.claim_model.specs.Settings.{WorldSettings, Accepts}
 use Rattle.claim_model.specs.Held.{journal_in, journal_at, decided}
+use Rattle.claim_model.specs.Carried.{Says, Carries, IsVouched}
 use Rattle.claim_model.proofs.Lists.{numbered_put, numbered_put_other, numbered_append, numbered_last, numbered_more, numbered_within, numbered_map, all_map}
 use Rattle.claim_model.proofs.Options.{same_some}
 use Rattle.claim_model.proofs.Tests.{readable_parts}
 use Rattle.claim_model.proofs.Journals.{entry_added, entry_settled, Enters, Asks, submitted_enters, ticked_same, started_same, heard_settles, due_asks}
 use Rattle.claim_model.proofs.Given.{pharmacy_given}
-use Rattle.claim_model.proofs.Sound.{id_at, SoundEntry, SoundJournal, Carries, SoundPacket, Says, Sound, Later, RequestsStay, with_pharmacy, pharmacy_later, entry_later, journal_later, sound_pharmacy}
-
--- what is taken was sent by some node
-abbrev pub SoundCall : Context → World → Call → Type 0
-SoundCall ctx w (Take from bytes) = Carries ctx w bytes
-SoundCall ctx w (Submit text) = ⊤
-SoundCall ctx w Tick = ⊤
-SoundCall ctx w Stop = ⊤
-SoundCall ctx w Start = ⊤
-SoundCall ctx w (Reprice change) = ⊤
-SoundCall ctx w (Adjudicate from bytes advice) = Carries ctx w bytes
+use Rattle.claim_model.proofs.Sound.{id_at, SoundEntry, SoundJournal, SoundPacket, Sound, Later, RequestsStay, with_pharmacy, pharmacy_later, entry_later, journal_later, sound_pharmacy}
 
 -- bytes that carry an envelope read as this envelope
 pub carries_reads : (ctx : Context) (w : World) (bytes : List ℕ) → Laws ctx → (c : Carries ctx w bytes) → ctx.read_envelope bytes ≡ Ok c.envelope
@@ -231,7 +222,7 @@ pub done_same : {A : Type 0} (a b : A) (s t : List Sent) → Done a s ≡ Done b
 done_same a b s t e = (cc, cc)
 
 pub pharmacy_sound : (ctx : Context) (given : WorldSettings) (w : World) (n : ℕ) (s next : Power Journal JournalAtRest) (call : Call) (sent : List Sent)
-    → Laws ctx → Accepts ctx given → Sound ctx given w → numbered w.pharmacies n ≡ Some s → SoundCall ctx w call → pharmacy_step ctx s call ≡ Done next sent
+    → Laws ctx → Accepts ctx given → Sound ctx given w → numbered w.pharmacies n ≡ Some s → IsVouched ctx w call → pharmacy_step ctx s call ≡ Done next sent
     → Kept_sound ctx given w (with_pharmacy w n next sent)
 pharmacy_sound ctx given w n (Up j) next (Submit text) sent laws accepts x is c e =
     let d = after_submit_done (submitted ctx j text) next sent e in

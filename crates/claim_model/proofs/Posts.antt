@@ -12,10 +12,11 @@ use Rattle.claim_model.specs.Node.{Node, Pharmacy, Switch, Payer, Power, Sent, C
 use Rattle.claim_model.specs.World.{World, Packet, Event, Submission, Ticking, Delivery, Stopping, Starting, PlanChange, Adjudication, packet_from, on_pharmacy, on_switch, on_payer, on_node, delivered, adjudicated, step, world_after, run}
 use Rattle.claim_model.specs.Settings.{WorldSettings, PayerSettings, Accepts, pharmacies_from, switches_of, payers_from, opening}
 use Rattle.claim_model.specs.Held.{journal_in}
+use Rattle.claim_model.specs.Carried.{IsVouched}
 use Rattle.claim_model.specs.Promises.{Reached}
 use Rattle.claim_model.proofs.Lists.{all_at, all_append, all_map, numbered_within}
 use Rattle.claim_model.proofs.Sound.{Sound, SoundPacket, each_put}
-use Rattle.claim_model.proofs.PharmacyStep.{SoundCall, pharmacy_sound}
+use Rattle.claim_model.proofs.PharmacyStep.{pharmacy_sound}
 use Rattle.claim_model.proofs.SwitchStep.{switch_sound}
 use Rattle.claim_model.proofs.PayerStep.{payer_sound}
 use Rattle.claim_model.proofs.Runs.{pharmacy_done, switch_done, payer_done, pharmacy_opens, opening_sound}
@@ -43,7 +44,7 @@ posted_all ctx given node packets out a b =
 switches_of_pharmacy : (ctx : Context) (given : WorldSettings) (w : World) (n : ℕ) (s : Power Journal JournalAtRest) → Accepts ctx given → Sound ctx given w → numbered w.pharmacies n ≡ Some s → HasSwitches (journal_in s).settings (length given.switches)
 switches_of_pharmacy ctx given w n s accepts x is = has_switches ctx given n (journal_in s).settings accepts (x.pharmacies n s is).settings
 
-pharmacy_posts : (ctx : Context) (given : WorldSettings) (w v : World) (n : ℕ) (call : Call) (sent : List Sent) (o : Option (Power Journal JournalAtRest)) → Laws ctx → Accepts ctx given → Posted ctx given w → SoundCall ctx w call
+pharmacy_posts : (ctx : Context) (given : WorldSettings) (w v : World) (n : ℕ) (call : Call) (sent : List Sent) (o : Option (Power Journal JournalAtRest)) → Laws ctx → Accepts ctx given → Posted ctx given w → IsVouched ctx w call
     → numbered w.pharmacies n ≡ o → on_pharmacy ctx w n call o ≡ Done v sent → Posted ctx given v
 pharmacy_posts ctx given w v n call sent None laws accepts p c is e = absurd cc
 pharmacy_posts ctx given w v n call sent (Some s) laws accepts p c is e =
@@ -59,7 +60,7 @@ pharmacy_posts ctx given w v n call sent (Some s) laws accepts p c is e =
       packets = posted_all ctx given (Pharmacy n) w.packets sent p.packets t.sends;
     })
 
-switch_posts : (ctx : Context) (given : WorldSettings) (w v : World) (n : ℕ) (call : Call) (sent : List Sent) (o : Option (Power Table ℕ)) → Laws ctx → Accepts ctx given → Posted ctx given w → SoundCall ctx w call
+switch_posts : (ctx : Context) (given : WorldSettings) (w v : World) (n : ℕ) (call : Call) (sent : List Sent) (o : Option (Power Table ℕ)) → Laws ctx → Accepts ctx given → Posted ctx given w → IsVouched ctx w call
     → numbered w.switches n ≡ o → on_switch ctx w n call o ≡ Done v sent → Posted ctx given v
 switch_posts ctx given w v n call sent None laws accepts p c is e = absurd cc
 switch_posts ctx given w v n call sent (Some s) laws accepts p c is e =
@@ -76,7 +77,7 @@ switch_posts ctx given w v n call sent (Some s) laws accepts p c is e =
       packets = posted_all ctx given (Switch n) w.packets sent p.packets (switch_sends ctx given w n s d.0 call sent laws p.sound there (p.sound.switches n s is) c d.1);
     })
 
-payer_posts : (ctx : Context) (given : WorldSettings) (w v : World) (n : ℕ) (call : Call) (sent : List Sent) (o : Option (Power Book Book)) → Laws ctx → Accepts ctx given → Posted ctx given w → SoundCall ctx w call → CallIsFor ctx given (Payer n) call
+payer_posts : (ctx : Context) (given : WorldSettings) (w v : World) (n : ℕ) (call : Call) (sent : List Sent) (o : Option (Power Book Book)) → Laws ctx → Accepts ctx given → Posted ctx given w → IsVouched ctx w call → CallIsFor ctx given (Payer n) call
     → numbered w.payers n ≡ o → on_payer ctx w n call o ≡ Done v sent → Posted ctx given v
 payer_posts ctx given w v n call sent None laws accepts p c f is e = absurd cc
 payer_posts ctx given w v n call sent (Some s) laws accepts p c f is e =
@@ -91,7 +92,7 @@ payer_posts ctx given w v n call sent (Some s) laws accepts p c f is e =
       packets = posted_all ctx given (Payer n) w.packets sent p.packets (payer_sends ctx given w n s d.0 call sent laws c f d.1);
     })
 
-node_posts : (ctx : Context) (given : WorldSettings) (w v : World) (node : Node) (call : Call) (sent : List Sent) → Laws ctx → Accepts ctx given → Posted ctx given w → SoundCall ctx w call → CallIsFor ctx given node call
+node_posts : (ctx : Context) (given : WorldSettings) (w v : World) (node : Node) (call : Call) (sent : List Sent) → Laws ctx → Accepts ctx given → Posted ctx given w → IsVouched ctx w call → CallIsFor ctx given node call
     → on_node ctx w node call ≡ Done v sent → Posted ctx given v
 node_posts ctx given w v (Pharmacy n) call sent laws accepts p c f e = pharmacy_posts ctx given w v n call sent (numbered w.pharmacies n) laws accepts p c refl e
 node_posts ctx given w v (Switch n) call sent laws accepts p c f e = switch_posts ctx given w v n call sent (numbered w.switches n) laws accepts p c refl e

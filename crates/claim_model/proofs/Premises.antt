@@ -69,7 +69,7 @@ without_routes = record small { route = λ number key. None }
 abbrev pub split : World
 split = run without_routes (run small one (Submission 1 c1 ∷ Ticking 1 ∷ Delivery 1 ∷ Delivery 3 ∷ Delivery 4 ∷ [])) (Delivery 2 ∷ Delivery 6 ∷ [])
 
-split_held : map (λ node. held small split node (id 1 1)) (Pharmacy 1 ∷ Switch 1 ∷ []) ≡ Some (7 ∷ 1 ∷ 82 ∷ 4 ∷ 1 ∷ 0 ∷ 0 ∷ []) ∷ Some a1 ∷ []
+split_held : map (λ node. held small split node (id 1 1)) (Pharmacy 1 ∷ Switch 1 ∷ []) ≡ Some (7 ∷ 1 ∷ 82 ∷ 4 ∷ 48 ∷ 49 ∷ 0 ∷ []) ∷ Some a1 ∷ []
 unfolding one step answered readable transaction_code ruling judged submitted ticked due requested responded heard stopped started counted held refusals_by pharmacy
 split_held = refl
 

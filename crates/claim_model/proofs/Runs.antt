@@ -11,10 +11,11 @@ use Rattle.claim_model.specs.Node.{Node, Pharmacy, Switch, Payer, Power, Up, Sen
 use Rattle.claim_model.specs.World.{World, Packet, Event, Submission, Ticking, Delivery, Stopping, Starting, PlanChange, Adjudication, pharmacy_stepped, on_pharmacy, switch_stepped, on_switch, payer_stepped, on_payer, on_node, delivered, adjudicated, step, world_after, run}
 use Rattle.claim_model.specs.Settings.{WorldSettings, PayerSettings, Accepts, pharmacies_from, switches_of, payers_from, opening}
 use Rattle.claim_model.specs.Held.{journal_in, book_in}
+use Rattle.claim_model.specs.Carried.{IsVouched}
 use Rattle.claim_model.specs.Promises.{Reached}
 use Rattle.claim_model.proofs.Lists.{all_at}
 use Rattle.claim_model.proofs.Sound.{SoundJournal, SoundSwitch, SoundBook, SoundPacket, Sound, later_self, later_trans, with_pharmacy, with_switch, with_payer}
-use Rattle.claim_model.proofs.PharmacyStep.{SoundCall, Kept_sound, pharmacy_sound}
+use Rattle.claim_model.proofs.PharmacyStep.{Kept_sound, pharmacy_sound}
 use Rattle.claim_model.proofs.SwitchStep.{switch_sound}
 use Rattle.claim_model.proofs.PayerStep.{payer_sound}
 
@@ -132,7 +133,7 @@ at_node ctx w v (Payer n) call sent e = at_payer ctx w v n call sent (numbered w
 pub record Made (ctx : Context) (w v : World) : Type 0 where
   pub call : Call
   pub step_is : Step ctx w v call
-  pub takes : AllByRecursion (SoundPacket ctx w) w.packets → SoundCall ctx w call
+  pub takes : AllByRecursion (SoundPacket ctx w) w.packets → IsVouched ctx w call
 
 delivery_made : (ctx : Context) (w v : World) (k : ℕ) (sent : List Sent) (o : Option Packet) → numbered w.packets k ≡ o → delivered ctx w o ≡ Done v sent → Made ctx w v
 delivery_made ctx w v k sent None is e = absurd cc
@@ -154,7 +155,7 @@ event_made ctx w v (Starting node) sent e = record { call = Start; step_is = at_
 event_made ctx w v (PlanChange n change) sent e = record { call = Reprice change; step_is = at_node ctx w v (Payer n) (Reprice change) sent e; takes = λ all. tt }
 event_made ctx w v (Adjudication k advice) sent e = adjudication_made ctx w v k advice sent (numbered w.packets k) refl e
 
-step_sound : (ctx : Context) (given : WorldSettings) (w v : World) (call : Call) → Laws ctx → Accepts ctx given → Sound ctx given w → SoundCall ctx w call → Step ctx w v call → Kept_sound ctx given w v
+pub step_sound : (ctx : Context) (given : WorldSettings) (w v : World) (call : Call) → Laws ctx → Accepts ctx given → Sound ctx given w → IsVouched ctx w call → Step ctx w v call → Kept_sound ctx given w v
 step_sound ctx given w v call laws accepts x c (At_pharmacy n s next sent is e f) = subst (Kept_sound ctx given w) (sym f) (pharmacy_sound ctx given w n s next call sent laws accepts x is c e)
 step_sound ctx given w v call laws accepts x c (At_switch n s next sent is e f) = subst (Kept_sound ctx given w) (sym f) (switch_sound ctx given w n s next call sent laws x is c e)
 step_sound ctx given w v call laws accepts x c (At_payer n s next sent is e f) = subst (Kept_sound ctx given w) (sym f) (payer_sound ctx given w n s next call sent laws accepts x is c e)

@@ -1,6 +1,6 @@
--- What an answer says of a claim can be written again: amounts of eight digits each, with the right sum, or one to five codes.
-use Rattle.std.proofs.Common.{◌≡◌, ℕ, zero, suc, ◌+◌, ◌≤◌, ◌==◌, Bool, true, false, ◌&&◌, cond, List, [], ◌∷◌, length, Option, Some, None, Result, Ok, Err, refl, ap, subst, arith, eqb-true, leb-true}
-use Rattle.std.specs.Prelude.{bytes_eq, codes, nat_le}
+-- What an answer says of a claim can be written again: amounts of eight digits each, or one to five codes.
+use Rattle.std.proofs.Common.{◌≡◌, ℕ, zero, suc, ◌≤◌, ◌==◌, Bool, true, false, ◌&&◌, cond, List, [], ◌∷◌, length, Option, Some, None, Result, Ok, Err, refl, ap, subst, arith, leb-true, inl, inr}
+use Rattle.std.specs.Prelude.{bytes_eq, codes, nat_le, option_map}
 use Rattle.std.specs.List.{AllByRecursion}
 use Rattle.std.proofs.lemmas.Bool.{and_parts}
 use Rattle.d0_header.specs.Response.{Response}
@@ -10,14 +10,14 @@ use Rattle.claim_profile.specs.declared.answer_reading.AnswerFault.{AnswerFault}
 use Rattle.claim_profile.specs.declared.answer_reading.AnswerFault.TheVariants.{NoStatus, BadStatus, BadAmount, BadRejects}
 use Rattle.claim_profile.specs.Fields.{values_in, required}
 use Rattle.claim_profile.specs.Order.{number_up_to, amount_in_cents}
-use Rattle.claim_profile.specs.Money.{money_with}
-use Rattle.claim_profile.specs.Ruling.{AnswerParts, ◌>>=◌, or_fault, status_of, stands_beside, checked_status, status_in, authorization_in, claim_in, money_of, amount_at, money_in, codes_of, counted_codes, rejects_in, payment_in, reversal_in, rejection_in, ruling_under, ruling_in, rulings_in, answer_with, answer_of}
-use Rattle.bin_routes.specs.Table.{RouteMaps}
+use Rattle.claim_profile.specs.Ruling.{AnswerParts, ◌>>=◌, or_fault, status_of, stands_beside, checked_status, status_in, authorization_in, claim_in, money_of, amount_at, fee_in, money_in, code_of, IsCode, codes_of, counted_codes, rejects_in, payment_in, reversal_in, rejection_in, ruling_under, ruling_in, rulings_in, answer_with, said_by}
 use Rattle.claim_model.specs.Words.{Amounts, Code, Ruling, Paid, Duplicate, Answer}
 use Rattle.claim_model.specs.Judgement.{Verdict, Pays, Rejects, verdict_in}
 use Rattle.claim_model.specs.Laws.{IsAmounts, IsRejects, IsVerdict, AdvisesWell}
-use Rattle.claim_model.specs.Bytes.{answer_in, bytes_with}
-use Rattle.claim_model.proofs.Options.{then_some, same_some, same_ok}
+use Rattle.claim_model.specs.Bytes.{answer_in}
+use Rattle.claim_profile.proofs.CodeLemmas.{code_is}
+use Rattle.claim_profile.proofs.Unnamed.{fee_there}
+use Rattle.claim_model.proofs.Options.{map_some, then_some, same_some, same_ok}
 use Rattle.claim_model.proofs.BytesLaws.{AmountsInRange, amount_fits}
 
 bind_ok : {A B : Type 0} (r : Result A AnswerFault) (f : A → Result B AnswerFault) (y : B) → (r >>= f) ≡ Ok y → (x : A) × (r ≡ Ok x) × (f x ≡ Ok y)
@@ -34,28 +34,36 @@ required_fits law (v ∷ []) x e = amount_fits law v x e
 required_fits law (v ∷ w ∷ vs) x e = absurd cc
 
 -- four of them
-money_fits : (cost fee copay total : ℕ) (m : Amounts) → cost ≤ 99999999 → fee ≤ 99999999 → copay ≤ 99999999 → total ≤ 99999999 → money_with cost fee copay total ≡ Some m → IsAmounts m
-money_fits cost fee copay total m a b c d e = by_test (total + copay == cost + fee) refl e
-  where
-    by_test : (t : Bool) → (total + copay == cost + fee) ≡ t → cond t (Some (record { cost = cost; fee = fee; copay = copay; total = total })) None ≡ Some m → IsAmounts m
-    by_test true is h = subst IsAmounts (same_some _ m h) (record { cost = a; fee = b; copay = c; total = d; sum = eqb-true (total + copay) (cost + fee) is })
-    by_test false is h = absurd cc
+money_fits : (cost fee copay : ℕ) (total : Option ℕ) (m : Amounts) → cost ≤ 99999999 → fee ≤ 99999999 → copay ≤ 99999999 → ((t : ℕ) → total ≡ Some t → t ≤ 99999999)
+    → option_map (λ (t : ℕ). record { cost = cost; fee = fee; copay = copay; total = t }) total ≡ Some m → IsAmounts m
+money_fits cost fee copay None m a b c d e = absurd cc
+money_fits cost fee copay (Some total) m a b c d e = subst IsAmounts (same_some _ m e) (record { cost = a; fee = b; copay = c; total = d total refl })
 
-amounts_fit : AmountsInRange → (group : List SegmentParts) (m : Amounts) → money_in group ≡ Ok m → IsAmounts m
-amounts_fit law group m e =
-    let all = some_of_ok BadAmount (money_of (amount_at (codes "F6") group) (amount_at (codes "F7") group) (amount_at (codes "F5") group) (amount_at (codes "F9") group)) m e in
+fee_fits : AmountsInRange → (by : _) (group : List SegmentParts) (x : ℕ) → fee_in by group ≡ Some x → x ≤ 99999999
+fee_fits law by group x e = elim (fee_there by group x e) [ inl there ↦ required_fits law (values_in (codes "23") (codes "F7") group) x there | inr none ↦ omega (arith, none) ]
+
+amounts_fit : AmountsInRange → (by : _) (group : List SegmentParts) (m : Amounts) → money_in by group ≡ Ok m → IsAmounts m
+amounts_fit law by group m e =
+    let all = some_of_ok BadAmount (money_of (amount_at (codes "F6") group) (fee_in by group) (amount_at (codes "F5") group) (amount_at (codes "F9") group)) m e in
     let c = then_some _ (amount_at (codes "F6") group) m all in
-    let f = then_some _ (amount_at (codes "F7") group) m c.2 in
+    let f = then_some _ (fee_in by group) m c.2 in
     let p = then_some _ (amount_at (codes "F5") group) m f.2 in
-    let t = then_some _ (amount_at (codes "F9") group) m p.2 in
-    money_fits c.0 f.0 p.0 t.0 m (required_fits law (values_in (codes "23") (codes "F6") group) c.0 c.1) (required_fits law (values_in (codes "23") (codes "F7") group) f.0 f.1)
-    (required_fits law (values_in (codes "23") (codes "F5") group) p.0 p.1) (required_fits law (values_in (codes "23") (codes "F9") group) t.0 t.1) t.2
+    money_fits c.0 f.0 p.0 (amount_at (codes "F9") group) m (required_fits law (values_in (codes "23") (codes "F6") group) c.0 c.1) (fee_fits law by group f.0 f.1)
+    (required_fits law (values_in (codes "23") (codes "F5") group) p.0 p.1) (required_fits law (values_in (codes "23") (codes "F9") group)) p.2
+
+-- what texts are read as are codes
+codes_are : (texts : List (List ℕ)) (cs : List Code) → codes_of texts ≡ Some cs → AllByRecursion IsCode cs
+codes_are [] cs e = subst (AllByRecursion IsCode) (same_some [] cs e) tt
+codes_are (text ∷ texts) cs e =
+    let first = then_some _ (code_of text) cs e in
+    let more = map_some _ (codes_of texts) cs first.2 in
+    subst (AllByRecursion IsCode) more.2 (code_is text first.0 first.1, codes_are texts more.0 more.1)
 
 -- as many codes as are counted, one to five
-counted_fit : (count : Option ℕ) (o : Option (List Code)) (cs : List Code) → counted_codes count o ≡ Some cs → IsRejects cs
-counted_fit None o cs e = absurd cc
-counted_fit (Some count) None cs e = absurd cc
-counted_fit (Some count) (Some rejects) cs e = by_test (nat_le 1 (length rejects) && nat_le (length rejects) 5 && count == length rejects) refl e
+counted_fit : (count : Option ℕ) (o : Option (List Code)) (cs : List Code) → ((rejects : List Code) → o ≡ Some rejects → AllByRecursion IsCode rejects) → counted_codes count o ≡ Some cs → IsRejects cs
+counted_fit None o cs are e = absurd cc
+counted_fit (Some count) None cs are e = absurd cc
+counted_fit (Some count) (Some rejects) cs are e = by_test (nat_le 1 (length rejects) && nat_le (length rejects) 5 && count == length rejects) refl e
   where
     by_test : (t : Bool) → (nat_le 1 (length rejects) && nat_le (length rejects) 5 && count == length rejects) ≡ t → cond t (Some rejects) None ≡ Some cs → IsRejects cs
     by_test true is h =
@@ -63,12 +71,13 @@ counted_fit (Some count) (Some rejects) cs e = by_test (nat_le 1 (length rejects
         let q = and_parts (nat_le 1 (length rejects)) (nat_le (length rejects) 5) p.0 in
         let some : 1 ≤ length rejects = leb-true _ _ q.0 in
         let few : length rejects ≤ 5 = leb-true _ _ q.1 in
-        subst IsRejects (same_some _ cs h) (record { some = omega (arith, some); few = few })
+        subst IsRejects (same_some _ cs h) (record { some = omega (arith, some); few = few; each = are rejects refl })
     by_test false is h = absurd cc
 
 codes_fit : (group : List SegmentParts) (cs : List Code) → rejects_in group ≡ Ok cs → IsRejects cs
 codes_fit group cs e =
     counted_fit (required (number_up_to 2) (values_in (codes "21") (codes "FA") group)) (codes_of (values_in (codes "21") (codes "FB") group)) cs
+    (codes_are (values_in (codes "21") (codes "FB") group))
     (some_of_ok BadRejects (counted_codes (required (number_up_to 2) (values_in (codes "21") (codes "FA") group)) (codes_of (values_in (codes "21") (codes "FB") group))) cs e)
 
 -- what a ruling says of a claim
@@ -80,23 +89,23 @@ said_of : (t : Bool) (m : Amounts) (v : Verdict) → IsAmounts m → cond t (Som
 said_of true m v fit h = subst IsVerdict (same_some (Pays m) v h) fit
 said_of false m v fit h = absurd cc
 
-payment_says : AmountsInRange → (group : List SegmentParts) (r : Ruling) → payment_in Paid group ≡ Ok r → SaysWell r
-payment_says law group r e =
-    let a = bind_ok (authorization_in group) _ r e in
+payment_says : AmountsInRange → (by : _) (group : List SegmentParts) (r : Ruling) → payment_in by Paid group ≡ Ok r → SaysWell r
+payment_says law by group r e =
+    let a = bind_ok (authorization_in by group) _ r e in
     let n = bind_ok (claim_in group) _ r a.2 in
-    let m = bind_ok (money_in group) _ r n.2 in
-    subst SaysWell (same_ok _ r m.2) (λ claimed v h. said_of (n.0 == claimed) m.0 v (amounts_fit law group m.0 m.1) h)
+    let m = bind_ok (money_in by group) _ r n.2 in
+    subst SaysWell (same_ok _ r m.2) (λ claimed v h. said_of (n.0 == claimed) m.0 v (amounts_fit law by group m.0 m.1) h)
 
-duplicate_says : AmountsInRange → (group : List SegmentParts) (r : Ruling) → payment_in Duplicate group ≡ Ok r → SaysWell r
-duplicate_says law group r e =
-    let a = bind_ok (authorization_in group) _ r e in
+duplicate_says : AmountsInRange → (by : _) (group : List SegmentParts) (r : Ruling) → payment_in by Duplicate group ≡ Ok r → SaysWell r
+duplicate_says law by group r e =
+    let a = bind_ok (authorization_in by group) _ r e in
     let n = bind_ok (claim_in group) _ r a.2 in
-    let m = bind_ok (money_in group) _ r n.2 in
-    subst SaysWell (same_ok _ r m.2) (λ claimed v h. said_of (n.0 == claimed) m.0 v (amounts_fit law group m.0 m.1) h)
+    let m = bind_ok (money_in by group) _ r n.2 in
+    subst SaysWell (same_ok _ r m.2) (λ claimed v h. said_of (n.0 == claimed) m.0 v (amounts_fit law by group m.0 m.1) h)
 
-reversal_says : (group : List SegmentParts) (r : Ruling) → reversal_in group ≡ Ok r → SaysWell r
-reversal_says group r e =
-    let a = bind_ok (authorization_in group) _ r e in
+reversal_says : (by : _) (group : List SegmentParts) (r : Ruling) → reversal_in by group ≡ Ok r → SaysWell r
+reversal_says by group r e =
+    let a = bind_ok (authorization_in by group) _ r e in
     let n = bind_ok (claim_in group) _ r a.2 in
     subst SaysWell (same_ok _ r n.2) (λ claimed v h. absurd cc)
 
@@ -125,31 +134,31 @@ checked_some : (h : Response) (o : _) (s : _) → checked_status h o ≡ Ok s �
 checked_some h None s e = absurd cc
 checked_some h (Some a) s e = ap (λ x. Some x) (if_ok (stands_beside h a) a s e)
 
-ruling_says : AmountsInRange → (h : Response) (group : List SegmentParts) (r : Ruling) → ruling_in h group ≡ Ok r → SaysWell r
+ruling_says : AmountsInRange → (by : _) (h : Response) (group : List SegmentParts) (r : Ruling) → ruling_in by h group ≡ Ok r → SaysWell r
 unfolding ruling_in
-ruling_says law h group r e =
-    let s = bind_ok (status_in h group) (ruling_under group) r e in
+ruling_says law by h group r e =
+    let s = bind_ok (status_in h group) (ruling_under by group) r e in
     let t = bind_ok (or_fault NoStatus (required (λ value. Some value) (values_in (codes "21") (codes "AN") group))) (λ text. checked_status h (status_of text)) s.0 s.1 in
-    by_status (ruling_under group) _ _ _ _ (payment_says law group) (duplicate_says law group) (reversal_says group) (rejection_says group)
+    by_status (ruling_under by group) _ _ _ _ (payment_says law by group) (duplicate_says law by group) (reversal_says by group) (rejection_says group)
     (bytes_eq t.0 (codes "P")) (bytes_eq t.0 (codes "D")) (bytes_eq t.0 (codes "A")) (bytes_eq t.0 (codes "R")) s.0 (checked_some h (status_of t.0) s.0 t.2) r s.2
 
-rulings_say : AmountsInRange → (h : Response) (groups : List (List SegmentParts)) (rs : List Ruling) → rulings_in h groups ≡ Ok rs → AllByRecursion SaysWell rs
+rulings_say : AmountsInRange → (by : _) (h : Response) (groups : List (List SegmentParts)) (rs : List Ruling) → rulings_in by h groups ≡ Ok rs → AllByRecursion SaysWell rs
 unfolding rulings_in
-rulings_say law h [] rs e = subst (AllByRecursion SaysWell) (same_ok [] rs e) tt
-rulings_say law h (group ∷ groups) rs e =
-    let first = bind_ok (ruling_in h group) _ rs e in
-    let later = bind_ok (rulings_in h groups) _ rs first.2 in
-    subst (AllByRecursion SaysWell) (same_ok (first.0 ∷ later.0) rs later.2) (ruling_says law h group first.0 first.1, rulings_say law h groups later.0 later.1)
+rulings_say law by h [] rs e = subst (AllByRecursion SaysWell) (same_ok [] rs e) tt
+rulings_say law by h (group ∷ groups) rs e =
+    let first = bind_ok (ruling_in by h group) _ rs e in
+    let later = bind_ok (rulings_in by h groups) _ rs first.2 in
+    subst (AllByRecursion SaysWell) (same_ok (first.0 ∷ later.0) rs later.2) (ruling_says law by h group first.0 first.1, rulings_say law by h groups later.0 later.1)
 
-with_says : AmountsInRange → (o : Option (TransmissionParts Response)) (a : AnswerParts) → answer_with o ≡ Ok a → AllByRecursion SaysWell a.rulings
-with_says law None a e = absurd cc
-with_says law (Some t) a e =
-    let rs = bind_ok (rulings_in t.header t.groups) _ a e in
-    subst (λ (x : AnswerParts). AllByRecursion SaysWell x.rulings) (same_ok _ a rs.2) (rulings_say law t.header t.groups rs.0 rs.1)
+with_says : AmountsInRange → (by : _) (o : Option (TransmissionParts Response)) (a : AnswerParts) → answer_with by o ≡ Ok a → AllByRecursion SaysWell a.rulings
+with_says law by None a e = absurd cc
+with_says law by (Some t) a e =
+    let rs = bind_ok (rulings_in by t.header t.groups) _ a e in
+    subst (λ (x : AnswerParts). AllByRecursion SaysWell x.rulings) (same_ok _ a rs.2) (rulings_say law by t.header t.groups rs.0 rs.1)
 
-answer_says : AmountsInRange → (bytes : List ℕ) (a : AnswerParts) → answer_of bytes ≡ Ok a → AllByRecursion SaysWell a.rulings
-unfolding answer_of
-answer_says law bytes a e = with_says law (transmission_of response_kind bytes) a e
+answer_says : AmountsInRange → (by : _) (bytes : List ℕ) (a : AnswerParts) → said_by by bytes ≡ Ok a → AllByRecursion SaysWell a.rulings
+unfolding said_by
+answer_says law by bytes a e = with_says law by (transmission_of response_kind bytes) a e
 
 -- at each place
 pub at_place : (rs : List Ruling) → AllByRecursion SaysWell rs → AdvisesWell rs
@@ -158,9 +167,6 @@ at_place [] all (suc place) claimed v e = absurd cc
 at_place (r ∷ rs) all (suc zero) claimed v e = all.0 claimed v e
 at_place (r ∷ rs) all (suc (suc place)) claimed v e = at_place rs all.1 (suc place) claimed v e
 
-said_by : AmountsInRange → (bytes : List ℕ) (r : Result AnswerParts AnswerFault) (a : Answer) → answer_of bytes ≡ r → answer_in r ≡ Some a → AdvisesWell a.rulings
-said_by law bytes (Ok parts) a is e = subst (λ (x : Answer). AdvisesWell x.rulings) (same_some _ a e) (at_place parts.rulings (answer_says law bytes parts is))
-said_by law bytes (Err fault) a is e = absurd cc
-
-pub says_well : AmountsInRange → (routes : RouteMaps) (bytes : List ℕ) (a : Answer) → (bytes_with routes).read_answer bytes ≡ Some a → AdvisesWell a.rulings
-says_well law routes bytes a e = said_by law bytes (answer_of bytes) a refl e
+pub speaks_well : AmountsInRange → (by : _) (bytes : List ℕ) (r : Result AnswerParts AnswerFault) (a : Answer) → said_by by bytes ≡ r → answer_in r ≡ Some a → AdvisesWell a.rulings
+speaks_well law by bytes (Ok parts) a is e = subst (λ (x : Answer). AdvisesWell x.rulings) (same_some _ a e) (at_place parts.rulings (answer_says law by bytes parts is))
+speaks_well law by bytes (Err fault) a is e = absurd cc

@@ -1,5 +1,5 @@
 -- Schedules of events that compute: what the definitions say of whole stories.
-use Rattle.std.proofs.Common.{◌≡◌, ℕ, ◌+◌, Bool, true, false, List, [], ◌∷◌, ◌++◌, map, Option, Some, None, Result, Ok, Err, refl}
+use Rattle.std.proofs.Common.{◌≡◌, ℕ, ◌+◌, true, false, List, [], ◌∷◌, ◌++◌, map, Option, Some, None, Result, Ok, Err, refl}
 use Rattle.std.specs.Prelude.{option_map}
 use Rattle.claim_profile.specs.Transaction.{transaction_code}
 use Rattle.claim_model.specs.Words.{SetPrice, SetTerms, TxnId, Envelope, Auth, Ruling, Paid, Duplicate, Reversed, Rejected, BadBin, DuplicateClaim, ReversalNotProcessed}

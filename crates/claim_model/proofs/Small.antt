@@ -1,9 +1,10 @@
 -- A small reading of bytes, in which schedules compute: a request is its code, its provider, its BIN and one number for each group.
-use Rattle.std.proofs.Common.{◌≡◌, ℕ, ◌/◌, ◌%◌, cond, ◌==◌, List, [], ◌∷◌, map, length, Option, Some, None, Result, Ok, Err, refl}
+use Rattle.std.proofs.Common.{ℕ, ◌/◌, ◌%◌, cond, ◌==◌, List, [], ◌∷◌, map, length, Option, Some, None, Result, Ok, Err}
 use Rattle.std.specs.Prelude.{bytes_eq, flat_map, option_map}
-use Rattle.claim_profile.specs.declared.reject.Code.TheVariants as code
+use Rattle.claim_profile.specs.Reject.{code_text}
+use Rattle.claim_profile.specs.Ruling.{code_of}
 use Rattle.envelope.specs.declared.opening.EnvelopeFault.TheVariants.{Short}
-use Rattle.claim_model.specs.Words.{Amounts, Order, Bills, Reverses, Code, BadBin, NotCovered, DuplicateClaim, ReversalNotProcessed, Ruling, Paid, Duplicate, Reversed, Rejected, RequestHeader, Status, AcceptedStatus, RejectedStatus, Answer, Kind, Request, Response, Envelope, EnvelopeFault}
+use Rattle.claim_model.specs.Words.{Amounts, Order, Bills, Reverses, Code, Ruling, Paid, Duplicate, Reversed, Rejected, RequestHeader, Status, AcceptedStatus, RejectedStatus, Answer, Kind, Request, Response, Envelope, EnvelopeFault}
 use Rattle.claim_model.specs.Context.{Context}
 use Rattle.claim_model.specs.Readable.{version_d0, billing_code, reversal_code}
 
@@ -26,51 +27,17 @@ abbrev pub small_orders : List ℕ → List (Result Order (List Code))
 small_orders (k ∷ p ∷ b ∷ groups) = map (small_order k p b) groups
 small_orders _ = []
 
--- each code has a number of its own, from which it is read; another number is no code
-abbrev pub code_number : Code → ℕ
-code_number code.Bin = 1
-code_number code.Cardholder = 7
-code_number code.DateOfService = 15
-code_number code.Prescription = 16
-code_number code.FillNumber = 17
-code_number code.Product = 21
-code_number code.IngredientCost = 23
-code_number code.Quantity = 97
-code_number code.DispensingFee = 98
-code_number code.NotCovered = 70
-code_number code.DuplicateClaim = 83
-code_number code.ReversalNotProcessed = 87
+-- a code is its letters, the third of which is 0 where there are two
+abbrev pub three_letters : List ℕ → List ℕ
+three_letters (a ∷ b ∷ []) = a ∷ b ∷ 0 ∷ []
+three_letters (a ∷ b ∷ c ∷ []) = a ∷ b ∷ c ∷ []
+three_letters _ = []
 
-abbrev pub every_code : List Code
-every_code =
-    code.Bin ∷ code.Cardholder ∷ code.DateOfService ∷ code.Prescription ∷ code.FillNumber ∷ code.Product ∷ code.IngredientCost
-    ∷ code.Quantity ∷ code.DispensingFee ∷ code.NotCovered ∷ code.DuplicateClaim ∷ code.ReversalNotProcessed ∷ []
-
--- the first code of a list with this number
-abbrev pub code_among : ℕ → List Code → Option Code
-code_among n [] = None
-code_among n (c ∷ more) = cond (n == code_number c) (Some c) (code_among n more)
-
-abbrev pub number_code : ℕ → Option Code
-number_code n = code_among n every_code
-
--- so a new code has to have a number, and to be read
-codes_are_read : (c : Code) → number_code (code_number c) ≡ Some c
-codes_are_read code.Bin = refl
-codes_are_read code.Cardholder = refl
-codes_are_read code.DateOfService = refl
-codes_are_read code.Prescription = refl
-codes_are_read code.FillNumber = refl
-codes_are_read code.Product = refl
-codes_are_read code.IngredientCost = refl
-codes_are_read code.Quantity = refl
-codes_are_read code.DispensingFee = refl
-codes_are_read code.NotCovered = refl
-codes_are_read code.DuplicateClaim = refl
-codes_are_read code.ReversalNotProcessed = refl
+abbrev pub letters_code : ℕ → ℕ → ℕ → Option Code
+letters_code a b c = code_of (a ∷ b ∷ cond (c == 0) [] (c ∷ []))
 
 abbrev pub code_numbers : List Code → List ℕ
-code_numbers (c ∷ []) = 4 ∷ code_number c ∷ 0 ∷ 0 ∷ []
+code_numbers (c ∷ []) = 4 ∷ three_letters (code_text c)
 code_numbers _ = []
 
 abbrev pub all_amounts : Amounts
@@ -88,7 +55,7 @@ numbers_ruling k a b c =
     cond (k == 1) (Some (Paid (record { payer = a; serial = b }) c all_amounts))
     (cond (k == 2) (Some (Duplicate (record { payer = a; serial = b }) c all_amounts))
     (cond (k == 3) (Some (Reversed (record { payer = a; serial = b }) c))
-    (cond (k == 4) (option_map (λ (it : Code). Rejected (it ∷ [])) (number_code a)) None)))
+    (cond (k == 4) (option_map (λ (it : Code). Rejected (it ∷ [])) (letters_code a b c)) None)))
 
 abbrev pub before_all : Option Ruling → Option (List Ruling) → Option (List Ruling)
 before_all (Some ruling) (Some more) = Some (ruling ∷ more)
@@ -138,6 +105,7 @@ small =
       reprice = λ plan change. Ok plan;
       answer = small_answer;
       read_answer = small_read_answer;
+      read_advice = small_read_answer;
       envelope = small_envelope;
       read_envelope = small_read_envelope;
     }

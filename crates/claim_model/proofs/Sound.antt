@@ -3,9 +3,9 @@ use Rattle.std.proofs.Common.{◌≡◌, ℕ, ◌+◌, ◌<◌, ◌≤◌, Bool,
 use Rattle.std.specs.Prelude.{option_map, option_and_then, ⊤}
 use Rattle.std.specs.List.{AllByRecursion}
 use Rattle.std.proofs.lemmas.Bool.{cases_eq}
-use Rattle.claim_model.specs.Words.{TxnId, RequestHeader, Kind, Request, Response, Envelope}
+use Rattle.claim_model.specs.Words.{TxnId, RequestHeader, Kind, Request, Response}
 use Rattle.claim_model.specs.Context.{Context}
-use Rattle.claim_model.specs.Laws.{IsEnvelope, IsRuling}
+use Rattle.claim_model.specs.Laws.{IsRuling}
 use Rattle.claim_model.specs.Readable.{readable, payer_for}
 use Rattle.claim_model.specs.Rows.{Row, Book}
 use Rattle.claim_model.specs.Book.{row_of}
@@ -16,6 +16,7 @@ use Rattle.claim_model.specs.Node.{Node, Power, Up, AtRest, Sent}
 use Rattle.claim_model.specs.World.{World, Packet, packet_from, posted}
 use Rattle.claim_model.specs.Settings.{WorldSettings, PayerSettings}
 use Rattle.claim_model.specs.Held.{journal_in, book_in, asked, row_at, row_answer, decided_by, decided_for, decided}
+use Rattle.claim_model.specs.Carried.{Says, Carries}
 use Rattle.claim_model.proofs.Lists.{numbered_put, numbered_put_other, all_weaker, all_append}
 use Rattle.claim_model.proofs.Options.{map_some, then_some, same_some}
 
@@ -60,18 +61,6 @@ pub record SoundBook (ctx : Context) (given : WorldSettings) (w : World) (n : �
   pub stands : numbered given.payers n ≡ Some given_as
   pub settings : given_as.book ≡ b.settings
   pub rows : AllByRecursion (SoundRow ctx w n b.rows) b.rows
-
--- an envelope says what was submitted, or what was decided
-abbrev pub Says : Context → World → TxnId → List ℕ → Kind → Type 0
-Says ctx w id payload Request = asked w id ≡ Some payload
-Says ctx w id payload Response = decided ctx w id ≡ Some payload
-
--- bytes that some node may have sent
-pub record Carries (ctx : Context) (w : World) (bytes : List ℕ) : Type 0 where
-  pub envelope : Envelope
-  pub fits : IsEnvelope envelope
-  pub spells : bytes ≡ ctx.envelope envelope
-  pub says : Says ctx w envelope.id envelope.payload envelope.kind
 
 abbrev pub SoundPacket : Context → World → Packet → Type 0
 SoundPacket ctx w p = Carries ctx w p.bytes

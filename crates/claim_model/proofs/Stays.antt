@@ -28,13 +28,13 @@ pub record Goes_on (j after : JournalAtRest) : Type 0 where
   pub settings : after.settings ≡ j.settings
   pub entries : (k : ℕ) (e : Kept) → numbered j.entries k ≡ Some e → EntryStays after k e
 
-on_same : (j : JournalAtRest) → Goes_on j j
+pub on_same : (j : JournalAtRest) → Goes_on j j
 on_same j = record { number = refl; settings = refl; entries = λ k e h. record { entry = e; stands = h; request = refl; answer = λ a f. f } }
 
 on_equal : (j after : JournalAtRest) → after ≡ j → Goes_on j after
 on_equal j after e = subst (Goes_on j) (sym e) (on_same j)
 
-on_trans : (i j k : JournalAtRest) → Goes_on i j → Goes_on j k → Goes_on i k
+pub on_trans : (i j k : JournalAtRest) → Goes_on i j → Goes_on j k → Goes_on i k
 on_trans i j k f g =
     record {
       number = g.number ∙ f.number;
@@ -80,7 +80,7 @@ takes_on ctx j (Ok env) next sent e =
     let on : Goes_on (stopped j) (stopped d.0) = subst (Goes_on (stopped j)) (sym s.is) (on_settled (stopped j) env.id.number s.entry env.payload s.stands s.is_open) in
     subst (λ y. Goes_on (stopped j) (journal_in y)) (sym d.2) on
 
-pharmacy_on : (ctx : Context) (s next : Power Journal JournalAtRest) (call : Call) (sent : List Sent) → pharmacy_step ctx s call ≡ Done next sent → Goes_on (journal_in s) (journal_in next)
+pub pharmacy_on : (ctx : Context) (s next : Power Journal JournalAtRest) (call : Call) (sent : List Sent) → pharmacy_step ctx s call ≡ Done next sent → Goes_on (journal_in s) (journal_in next)
 pharmacy_on ctx (Up j) next (Submit text) sent e =
     let d = after_submit_done (submitted ctx j text) next sent e in
     let f = submitted_enters ctx j text d.0 d.1 in
@@ -109,10 +109,10 @@ pub record Rows_on (b after : Book) : Type 0 where
   pub more : List Row
   pub rows : after.rows ≡ b.rows ++ more
 
-rows_same : (b : Book) → Rows_on b b
+pub rows_same : (b : Book) → Rows_on b b
 rows_same b = record { payer = refl; settings = refl; more = []; rows = sym (append-nil b.rows) }
 
-rows_trans : (a b c : Book) → Rows_on a b → Rows_on b c → Rows_on a c
+pub rows_trans : (a b c : Book) → Rows_on a b → Rows_on b c → Rows_on a c
 rows_trans a b c f g =
     record {
       payer = g.payer ∙ f.payer;
@@ -121,7 +121,7 @@ rows_trans a b c f g =
       rows = g.rows ∙ (ap (λ (rs : List Row). rs ++ g.more) f.rows ∙ append_assoc a.rows f.more g.more);
     }
 
-moves_on : (ctx : Context) (b after : Book) → BookMoves ctx b after → Rows_on b after
+pub moves_on : (ctx : Context) (b after : Book) → BookMoves ctx b after → Rows_on b after
 moves_on ctx b after (Same rows payer settings) = record { payer = payer; settings = settings; more = []; rows = rows ∙ sym (append-nil b.rows) }
 moves_on ctx b after (Adds advice id request is) =
     record { payer = ap (λ (q : Book). q.payer) is; settings = ap (λ (q : Book). q.settings) is; more = new_row ctx b advice id request ∷ []; rows = ap (λ (q : Book). q.rows) is }

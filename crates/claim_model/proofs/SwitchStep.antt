@@ -13,12 +13,13 @@ use Rattle.claim_model.specs.Node.{Node, Power, Up, AtRest, Sent, Call, Submit, 
 use Rattle.claim_model.specs.World.{World, packet_from}
 use Rattle.claim_model.specs.Settings.{WorldSettings}
 use Rattle.claim_model.specs.Held.{asked, decided}
+use Rattle.claim_model.specs.Carried.{Says, Carries, IsVouched}
 use Rattle.claim_model.proofs.Lists.{find_cases, all_append, all_cond, all_drop, all_map}
 use Rattle.claim_model.proofs.Options.{same_ok, cond_ok, cond_ok_not}
 use Rattle.claim_model.proofs.Tests.{id_same}
-use Rattle.claim_model.proofs.Sound.{SoundSlot, SoundSwitch, Carries, SoundPacket, Says, Sound, Later, with_switch, switch_step_later, switch_later, carries_later, sound_switch}
+use Rattle.claim_model.proofs.Sound.{SoundSlot, SoundSwitch, SoundPacket, Sound, Later, with_switch, switch_step_later, switch_later, carries_later, sound_switch}
 use Rattle.claim_model.proofs.Decided.{origin, decided_unrouted}
-use Rattle.claim_model.proofs.PharmacyStep.{SoundCall, carries_reads, Kept_sound, says_response, done_same}
+use Rattle.claim_model.proofs.PharmacyStep.{carries_reads, Kept_sound, says_response, done_same}
 
 says_request : (ctx : Context) (w : World) (id : TxnId) (payload : List ℕ) (k : Kind) → elim k [ Request ↦ true | Response ↦ false ] ≡ true → Says ctx w id payload k → asked w id ≡ Some payload
 says_request ctx w id payload Request e s = s
@@ -181,7 +182,7 @@ taken_by ctx given w bytes c t next sent true laws x all e =
 taken_by ctx given w bytes c t next sent false laws x all e =
     response_taken ctx w c.envelope.id (responded ctx t c.envelope) next sent (λ q h. responded_sound ctx w bytes c t q all h) e
 
-taken : (ctx : Context) (given : WorldSettings) (w : World) (s next : Power Table ℕ) (call : Call) (sent : List Sent) → Laws ctx → Sound ctx given w → SoundSwitch ctx w s → SoundCall ctx w call
+taken : (ctx : Context) (given : WorldSettings) (w : World) (s next : Power Table ℕ) (call : Call) (sent : List Sent) → Laws ctx → Sound ctx given w → SoundSwitch ctx w s → IsVouched ctx w call
     → switch_step ctx s call ≡ Done next sent → SoundTaken ctx w next sent
 taken ctx given w (Up t) next (Take from bytes) sent laws x all c e =
     taken_by ctx given w bytes c t next sent (is_request c.envelope) laws x all (ap (switch_takes ctx t) (sym (carries_reads ctx w bytes laws c)) ∙ e)
@@ -204,7 +205,7 @@ taken ctx given w (AtRest cap) next (Reprice change) sent laws x all c e = absur
 taken ctx given w (AtRest cap) next (Adjudicate from bytes advice) sent laws x all c e = absurd cc
 
 pub switch_sound : (ctx : Context) (given : WorldSettings) (w : World) (n : ℕ) (s next : Power Table ℕ) (call : Call) (sent : List Sent)
-    → Laws ctx → Sound ctx given w → numbered w.switches n ≡ Some s → SoundCall ctx w call → switch_step ctx s call ≡ Done next sent
+    → Laws ctx → Sound ctx given w → numbered w.switches n ≡ Some s → IsVouched ctx w call → switch_step ctx s call ≡ Done next sent
     → Kept_sound ctx given w (with_switch w n next sent)
 switch_sound ctx given w n s next call sent laws x is c e =
     let v : World = with_switch w n next sent in

@@ -81,13 +81,13 @@ again v m (Adjudication k advice) a all e = adjudicated_again v m k advice a (nu
 
 -- what two logs share
 
-same_first : (l d : Logged) (log rest : List Logged) → l ∷ log ≡ d ∷ rest → l ≡ d
+pub same_first : (l d : Logged) (log rest : List Logged) → l ∷ log ≡ d ∷ rest → l ≡ d
 same_first l d log rest e = cc
 
-same_rest : (l d : Logged) (log rest : List Logged) → l ∷ log ≡ d ∷ rest → log ≡ rest
+pub same_rest : (l d : Logged) (log rest : List Logged) → l ∷ log ≡ d ∷ rest → log ≡ rest
 same_rest l d log rest e = cc
 
-nothing_left : (done left : List Logged) → [] ≡ done ++ left → left ≡ []
+pub nothing_left : (done left : List Logged) → [] ≡ done ++ left → left ≡ []
 nothing_left [] left e = sym e
 nothing_left (d ∷ done) left e = absurd cc
 

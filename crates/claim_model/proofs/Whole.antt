@@ -35,5 +35,8 @@ held_whole ctx given w node id a laws x here =
       places = λ place from to. place_there ctx w node id a o.spells.answer place here o.spells.reads from (subst (λ (n : ℕ). place ≤ n) (sym count) to);
     }
 
+pub sound_whole : (ctx : Context) (given : WorldSettings) (w : World) → Laws ctx → Sound ctx given w → AnswersAreWhole ctx w
+sound_whole ctx given w laws x = record { whole = λ node id a here. held_whole ctx given w node id a laws x here }
+
 pub answers_whole : (ctx : Context) (given : WorldSettings) (w : World) → Reached ctx given w → AnswersAreWhole ctx w
-answers_whole ctx given w r = record { whole = λ node id a here. held_whole ctx given w node id a r.laws (reached_sound ctx given w r) here }
+answers_whole ctx given w r = sound_whole ctx given w r.laws (reached_sound ctx given w r)

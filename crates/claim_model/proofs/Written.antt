@@ -2,6 +2,7 @@
 use Rattle.std.proofs.Common.{◌≡◌, ℕ, ◌+◌, ◌<◌, ◌≤◌, Bool, true, false, ◌&&◌, cond, List, [], ◌∷◌, ◌++◌, length, Option, Some, None, Result, Ok, Err, refl, sym, ap, ◌∙◌, subst, arith, leb-true}
 use Rattle.std.specs.List.{AllByRecursion, list_all}
 use Rattle.std.proofs.lemmas.Bool.{and_parts}
+use Rattle.claim_profile.specs.Ruling.{IsCode}
 use Rattle.claim_model.specs.Words.{TxnId, Amounts, Claim, Reversal, Order, Bills, Reverses, Code, Ruling, Paid, Duplicate, Reversed, Rejected, RequestHeader}
 use Rattle.claim_model.specs.Context.{Context}
 use Rattle.claim_model.specs.Laws.{Laws, IsClaimOf, IsOrderOf, IsAuth, IsAmounts, IsVerdict, AdvisesWell, IsRuling, IsPrescription, IsRejects}
@@ -47,19 +48,19 @@ pub record MayPay (b : Book) : Type 0 where
   pub payer_fits : b.payer ≤ 9999
   pub serial : 0 < b.settings.serial
 
-one_code : (code : Code) → IsRejects (code ∷ [])
-one_code code = record { some = omega arith; few = omega arith }
+one_code : (code : Code) → IsCode code → IsRejects (code ∷ [])
+one_code code is = record { some = omega arith; few = omega arith; each = (is, tt) }
 
 priced_written : (ctx : Context) (h : RequestHeader) (b : Book) (before : List Ruled) (c : Claim) (o : Option Verdict) → MayPay b
     → IsPrescription c.fill.prescription → ((v : Verdict) → o ≡ Some v → IsVerdict v) → serial_fits (priced (next_auth b before) c o) ≡ true → IsRuling (priced (next_auth b before) c o)
-priced_written ctx h b before c None may n fits s = one_code _
+priced_written ctx h b before c None may n fits s = one_code _ refl
 priced_written ctx h b before c (Some (Rejects codes)) may n fits s = fits (Rejects codes) refl
 priced_written ctx h b before c (Some (Pays m)) may n fits s =
     let le : next_serial b before ≤ 999999999999 = leb-true _ _ s in
     (record { payer = may.payer; payer_fits = may.payer_fits; serial = omega (arith, may.serial); serial_fits = le }, n, fits (Pays m) refl)
 
 planned_written : (ctx : Context) (laws : Laws ctx) (b : Book) (c : Claim) (h : RequestHeader) → IsClaimOf h c → (o : Option Amounts) → ctx.price b.plan c ≡ o → IsVerdict (planned o)
-planned_written ctx laws b c h of_it None e = one_code _
+planned_written ctx laws b c h of_it None e = one_code _ refl
 planned_written ctx laws b c h of_it (Some m) e = laws.prices b.plan h c m of_it e
 
 verdict_written : (ctx : Context) (laws : Laws ctx) (b : Book) (advice : List Ruling) (place : ℕ) (c : Claim) (h : RequestHeader) → AdvisesWell advice → IsClaimOf h c → (v : Verdict) → verdict_of ctx b advice place c ≡ Some v → IsVerdict v
@@ -77,11 +78,11 @@ judged_claim_written ctx laws b advice before place c h (Some p) well may of_it 
   where
     go : (t : Bool) → IsRuling (ruling_of ctx b advice before place (cond t (Unpriced (Duplicate p.auth c.fill.prescription p.amounts)) (Unpriced (Rejected (Code.DuplicateClaim ∷ [])))))
     go true = let q = w p refl in (q.0, of_it.prescription, q.1)
-    go false = one_code _
+    go false = one_code _ refl
 
 judged_reversal_written : (ctx : Context) (b : Book) (advice : List Ruling) (before : List Ruled) (place : ℕ) (v : Reversal) (o : Option Payment) → IsPrescription v.prescription
     → ((p : Payment) → o ≡ Some p → IsWritten p) → IsRuling (ruling_of ctx b advice before place (judged_reversal v o))
-judged_reversal_written ctx b advice before place v None n w = one_code _
+judged_reversal_written ctx b advice before place v None n w = one_code _ refl
 judged_reversal_written ctx b advice before place v (Some p) n w = ((w p refl).0, n)
 
 pub ruling_written : (ctx : Context) (laws : Laws ctx) (b : Book) (advice : List Ruling) (before : List Ruled) (place : ℕ) (h : RequestHeader) (order : Result Order (List Code)) → AdvisesWell advice → MayPay b → AllByRecursion RuledWritten before

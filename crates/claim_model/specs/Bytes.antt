@@ -1,5 +1,5 @@
 -- How the crates below read and write bytes, under one table of routes.
-use Rattle.std.specs.Prelude.{ℕ, List, [], map, Option, Some, None, Result, Ok, Err, option_map}
+use Rattle.std.specs.Prelude.{List, [], map, Option, Some, None, Result, Ok, Err, option_map}
 use Rattle.d0_segments.specs.Parts.{TransmissionParts}
 use Rattle.d0_segments.specs.Framing.{request_kind, transmission_of}
 use Rattle.envelope.specs.Envelope.{Opened, envelope_text}
@@ -10,7 +10,7 @@ use Rattle.claim_profile.specs.declared.order_reading.OrderFault.TheVariants.{Re
 use Rattle.claim_profile.specs.declared.answer_reading.AnswerFault.{AnswerFault}
 use Rattle.claim_profile.specs.Order.{order_of}
 use Rattle.claim_profile.specs.Answer.{answer_text}
-use Rattle.claim_profile.specs.Ruling.{AnswerParts, answer_of}
+use Rattle.claim_profile.specs.Ruling.{AnswerParts, answer_of, advice_of}
 use Rattle.plan_rules.specs.Pricing.{paid}
 use Rattle.plan_rules.specs.Terms.{changed}
 use Rattle.claim_model.specs.Words.{RequestHeader, Order, Code, Answer, Envelope, EnvelopeFault}
@@ -48,6 +48,7 @@ bytes_with routes = record {
   reprice = changed;
   answer = answer_text;
   read_answer = λ text. answer_in (answer_of text);
+  read_advice = λ text. answer_in (advice_of text);
   envelope = λ e. envelope_text e.kind e.id e.payload;
   read_envelope = λ bytes. envelope_in (envelope_of (0, 0) bytes);
 }

@@ -17,6 +17,8 @@ pub record Context : Type 0 where
   pub answer : RequestHeader → Status → List Ruling → List ℕ
   -- the answer that a text spells; none where the text is no answer
   pub read_answer : List ℕ → Option Answer
+  -- the answer that a text of a payer's own system spells, whose authorization numbers are not those of a book
+  pub read_advice : List ℕ → Option Answer
   -- the bytes of an envelope
   pub envelope : Envelope → List ℕ
   -- the envelope that bytes are, or what is wrong with them

@@ -1,8 +1,9 @@
 -- What the crates below promise of the readings in a context. Every theorem of this crate is for every context that keeps these laws.
-use Rattle.std.specs.Prelude.{◌≡◌, ℕ, ◌+◌, ◌^◌, ◌<◌, ◌≤◌, List, length, Some, Result, Ok, Err, ⊤}
+use Rattle.std.specs.Prelude.{◌≡◌, ℕ, ◌^◌, ◌<◌, ◌≤◌, List, length, Some, Result, Ok, Err, ⊤}
 use Rattle.std.specs.List.{AllByRecursion}
 use Rattle.claim_profile.specs.Authorization.{largest_serial}
 use Rattle.claim_profile.specs.Money.{largest}
+use Rattle.claim_profile.specs.Ruling.{IsCode}
 use Rattle.claim_model.specs.Words.{Auth, Amounts, Claim, Reversal, Order, Bills, Reverses, Code, Ruling, Paid, Duplicate, Reversed, Rejected, RequestHeader, Status, AcceptedStatus, RejectedStatus, Answer, Envelope, Plan, RouteKey}
 use Rattle.claim_model.specs.Context.{Context}
 use Rattle.claim_model.specs.Numbered.{numbered}
@@ -40,10 +41,11 @@ pub record IsReversalOf (h : RequestHeader) (v : Reversal) : Type 0 where
   pub provider : v.provider ≡ h.provider
   pub prescription : IsPrescription v.prescription
 
--- one to five codes
+-- one to five codes, each of which is read from its text
 pub record IsRejects (codes : List Code) : Type 0 where
   pub some : 0 < length codes
   pub few : length codes ≤ 5
+  pub each : AllByRecursion IsCode codes
 
 abbrev pub IsOrderOf : RequestHeader → Result Order (List Code) → Type 0
 IsOrderOf h (Ok (Bills c)) = IsClaimOf h c
@@ -57,13 +59,12 @@ pub record IsAuth (a : Auth) : Type 0 where
   pub serial : 0 < a.serial
   pub serial_fits : a.serial ≤ largest_serial
 
--- amounts of at most eight digits, of which plan and patient pay together what cost and fee are
+-- amounts of at most eight digits
 pub record IsAmounts (m : Amounts) : Type 0 where
   pub cost : m.cost ≤ largest
   pub fee : m.fee ≤ largest
   pub copay : m.copay ≤ largest
   pub total : m.total ≤ largest
-  pub sum : m.total + m.copay ≡ m.cost + m.fee
 
 -- a verdict that can be written
 abbrev pub IsVerdict : Verdict → Type 0
@@ -73,6 +74,10 @@ IsVerdict (Rejects codes) = IsRejects codes
 -- an advice whose verdicts can be written
 abbrev pub AdvisesWell : List Ruling → Type 0
 AdvisesWell advice = (place claimed : ℕ) (v : Verdict) → verdict_in claimed (numbered advice place) ≡ Some v → IsVerdict v
+
+-- the same verdicts, at each place
+abbrev pub SaysSame : List Ruling → List Ruling → Type 0
+SaysSame a b = (place claimed : ℕ) → verdict_in claimed (numbered a place) ≡ verdict_in claimed (numbered b place)
 
 -- a ruling that can be written
 abbrev pub IsRuling : Ruling → Type 0
@@ -117,5 +122,9 @@ pub record Laws (ctx : Context) : Type 0 where
   pub answers : AnswersReadBack ctx
   -- what an answer that is read says of a claim can be written again
   pub sayings : (text : List ℕ) (answer : Answer) → ctx.read_answer text ≡ Some answer → AdvisesWell answer.rulings
+  -- and what an advice says
+  pub advices : (text : List ℕ) (advice : Answer) → ctx.read_advice text ≡ Some advice → AdvisesWell advice.rulings
+  -- a book's answer is read as an advice too, which says the same of each claim
+  pub advised : (text : List ℕ) (answer : Answer) → ctx.read_answer text ≡ Some answer → (advice : Answer) × (ctx.read_advice text ≡ Some advice) × SaysSame advice.rulings answer.rulings
   -- requests that are alike in what a route may look at have the same payer, as far as they have one, whatever their numbers are
   pub routes : (m n : ℕ) (key : RouteKey) (p q : ℕ) → ctx.route m key ≡ Some p → ctx.route n key ≡ Some q → p ≡ q

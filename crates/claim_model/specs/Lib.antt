@@ -20,6 +20,7 @@ pub mod World
 pub mod Limits
 pub mod Settings
 pub mod Held
+pub mod Carried
 pub mod Promises
 pub mod Bytes
 pub mod InFlight

@@ -1,5 +1,5 @@
 -- One call on one node, up or at rest.
-use Rattle.std.specs.Prelude.{ℕ, cond, List, [], ◌∷◌, map, Option, Result, Ok, Err}
+use Rattle.std.specs.Prelude.{ℕ, cond, List, [], ◌∷◌, map, Result, Ok, Err}
 use Rattle.claim_model.specs.Words.{TxnId, Envelope, EnvelopeFault, Plan, PlanFault, Ruling, Change}
 use Rattle.claim_model.specs.Context.{Context}
 use Rattle.claim_model.specs.Readable.{is_request, answer_envelope, rulings_in}
@@ -133,7 +133,7 @@ payer_takes ctx b advice from (Ok e) = cond (is_request e) (after_answer ctx fro
 
 -- the rulings of an advice; none where its bytes are no answer
 abbrev pub advice_in : Context → List ℕ → List Ruling
-advice_in ctx advice = rulings_in (ctx.read_answer advice)
+advice_in ctx advice = rulings_in (ctx.read_advice advice)
 
 abbrev pub after_reprice : Book → Result Plan PlanFault → Outcome (Power Book Book)
 after_reprice b (Err fault) = Refused (NotPriced fault)

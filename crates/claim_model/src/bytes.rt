@@ -13,7 +13,7 @@ ghost use Rattle.envelope.specs.Opening.{envelope_of};
 ghost use Rattle.claim_model.specs.Bytes.{envelope_in, bytes_with};
 
 use bin_routes::{number_laws, range_laws};
-use claim_profile::{answer_laws, readable_laws};
+use claim_profile::{advice_laws, answer_laws, readable_laws};
 use envelope::envelope_reads_back;
 use overpunch::{amount_in_range, number_in_range};
 
@@ -25,6 +25,7 @@ pub fn bytes_keep_laws()
     number_in_range();
     amount_in_range();
     answer_laws();
+    advice_laws();
     readable_laws();
     number_laws();
 }

@@ -70,7 +70,7 @@ length-unrouted (suc n) r = ap suc (length-unrouted n r)
 
 unrouted_made : (n : ℕ) → AllByRecursion IsConstructible (replicate n (Rejected (Bin ∷ [])))
 unrouted_made zero = tt
-unrouted_made (suc n) = ((omega arith, omega arith), unrouted_made n)
+unrouted_made (suc n) = ((omega arith, omega arith, (refl, tt)), unrouted_made n)
 
 unrouted_beside : (n : ℕ) → AllByRecursion (StandsBeside header.Rejected) (replicate n (Rejected (Bin ∷ [])))
 unrouted_beside zero = tt

@@ -10,9 +10,11 @@ pub mod AnswerCounting
 pub mod CodeCounting
 pub mod RulingLemmas
 pub mod RulingList
+pub mod Unnamed
 pub mod ReadableLemmas
 pub mod PaddedNumbers
 pub mod PlainTexts
+pub mod CodeLemmas
 pub mod WrittenGroups
 pub mod WrittenAnswers
 pub mod CarriedHeaders

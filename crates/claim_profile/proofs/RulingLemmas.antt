@@ -9,6 +9,8 @@ use Rattle.claim_profile.specs.declared.ruling.Ruling.{Ruling}
 use Rattle.claim_profile.specs.declared.ruling.Ruling.TheVariants as ruling
 use Rattle.claim_profile.specs.declared.answer_reading.Status.{Status}
 use Rattle.claim_profile.specs.declared.answer_reading.Status.TheVariants as status
+use Rattle.claim_profile.specs.declared.answer_reading.Speaker.{Speaker}
+use Rattle.claim_profile.specs.declared.answer_reading.Speaker.TheVariants as speaker
 use Rattle.claim_profile.specs.declared.answer_reading.AnswerFault.{AnswerFault}
 use Rattle.claim_profile.specs.declared.answer_reading.AnswerFault.TheVariants.{NoStatus, BadAmount, BadAuthorization, BadRejects, BadClaim}
 use Rattle.claim_profile.specs.Authorization.{Authorization, authorization_of}
@@ -18,9 +20,9 @@ use Rattle.claim_profile.specs.Tally.{Absent, tallied, the_one}
 use Rattle.claim_profile.specs.Order.{number_up_to, amount_in_cents}
 use Rattle.claim_profile.specs.OrderSeen.{required_seen}
 use Rattle.claim_profile.specs.AnswerTally.{AnswerTally, no_answer_seen, answer_counted}
-use Rattle.claim_profile.specs.Ruling.{◌>>=◌, or_fault, status_of, checked_status, status_in, authorization_in, claim_in, money_of, money_in, code_of, codes_of, counted_codes, rejection_in, ruling_under, ruling_in}
-use Rattle.claim_profile.specs.RulingSeen.{status_seen, authorization_seen, claim_number_seen, money_seen, payment_seen, code_more, codes_counted, some_codes, ruled_under, ruled_seen, rejection_with, or_rejection}
-use Rattle.claim_profile.proofs.OrderLemmas.{required_counted, qualified_counted, tallied-many}
+use Rattle.claim_profile.specs.Ruling.{◌>>=◌, or_fault, status_of, checked_status, status_in, authorization_in, claim_in, money_of, fee_in, money_in, code_of, codes_of, counted_codes, rejection_in, ruling_under, ruling_in}
+use Rattle.claim_profile.specs.RulingSeen.{status_seen, authorization_seen, claim_number_seen, fee_said, money_seen, payment_seen, code_more, codes_counted, some_codes, ruled_under, ruled_seen, rejection_with, or_rejection}
+use Rattle.claim_profile.proofs.OrderLemmas.{required_counted, optional_counted, qualified_counted, tallied-many}
 use Rattle.claim_profile.proofs.AnswerCounting.{all_answer_counted, is_all_answer_counted}
 
 the_one_counted : (vs : List (List ℕ)) → the_one (tallied Absent vs) ≡ required (λ value. Some value) vs
@@ -34,16 +36,21 @@ the_one_counted (v ∷ w ∷ vs) = ap the_one (tallied-many vs)
 status_is : (h : Response) (group : List SegmentParts) → status_seen h (all_answer_counted group).status ≡ status_in h group
 status_is h group = ap (λ o. or_fault NoStatus o >>= λ text. checked_status h (status_of text)) (the_one_counted (values_in (codes "21") (codes "AN") group))
 
-authorization_is : (group : List SegmentParts) → authorization_seen (all_answer_counted group).authorization ≡ authorization_in group
-authorization_is group = ap (or_fault BadAuthorization) (required_counted authorization_of (values_in (codes "21") (codes "F3") group))
+authorization_is : (by : Speaker) (group : List SegmentParts) → authorization_seen by (all_answer_counted group).authorization ≡ authorization_in by group
+authorization_is speaker.System group = refl
+authorization_is speaker.Book group = ap (or_fault BadAuthorization) (required_counted authorization_of (values_in (codes "21") (codes "F3") group))
 
 claim_is : (group : List SegmentParts) → claim_number_seen (all_answer_counted group) ≡ claim_in group
 claim_is group = ap (or_fault BadClaim) (qualified_counted (codes "1") (texts_in (codes "22") (codes "EM") group) (number_up_to 12) (values_in (codes "22") (codes "D2") group))
 
-money_is : (group : List SegmentParts) → money_seen (all_answer_counted group) ≡ money_in group
-money_is group = λ i. or_fault BadAmount (money_of
+fee_is : (by : Speaker) (group : List SegmentParts) → fee_said by (all_answer_counted group).fee ≡ fee_in by group
+fee_is speaker.Book group = required_counted amount_in_cents (values_in (codes "23") (codes "F7") group)
+fee_is speaker.System group = optional_counted 0 amount_in_cents (values_in (codes "23") (codes "F7") group)
+
+money_is : (by : Speaker) (group : List SegmentParts) → money_seen by (all_answer_counted group) ≡ money_in by group
+money_is by group = λ i. or_fault BadAmount (money_of
     (required_counted amount_in_cents (values_in (codes "23") (codes "F6") group) i)
-    (required_counted amount_in_cents (values_in (codes "23") (codes "F7") group) i)
+    (fee_is by group i)
     (required_counted amount_in_cents (values_in (codes "23") (codes "F5") group) i)
     (required_counted amount_in_cents (values_in (codes "23") (codes "F9") group) i))
 
@@ -51,8 +58,8 @@ money_is group = λ i. or_fault BadAmount (money_of
 abbrev three : Result Authorization AnswerFault → Result ℕ AnswerFault → Result Money AnswerFault → Result (Authorization × ℕ × Money) AnswerFault
 three a p m = a >>= λ auth. p >>= λ prescription. m >>= λ amounts. Ok (auth, prescription, amounts)
 
-payment_is : (group : List SegmentParts) → payment_seen (all_answer_counted group) ≡ three (authorization_in group) (claim_in group) (money_in group)
-payment_is group = λ i. three (authorization_is group i) (claim_is group i) (money_is group i)
+payment_is : (by : Speaker) (group : List SegmentParts) → payment_seen by (all_answer_counted group) ≡ three (authorization_in by group) (claim_in group) (money_in by group)
+payment_is by group = λ i. three (authorization_is by group i) (claim_is group i) (money_is by group i)
 
 -- ---- from what is known to the ruling
 
@@ -167,22 +174,22 @@ rejection_is group =
 
 -- ---- the whole ruling
 
-by_status : (group : List SegmentParts) (s : Result Status AnswerFault) (rejection : Result Ruling AnswerFault) → rejection ≡ rejection_in group
-    → or_rejection (s >>= ruled_under (all_answer_counted group)) rejection ≡ (s >>= ruling_under group)
-by_status group (Err e) rejection same = refl
-by_status group (Ok status.Paid) rejection same =
-    ap (λ p. or_rejection (p >>= λ x. Ok (Some (ruling.Paid x.0 x.1 x.2))) rejection) (payment_is group) ∙ paid_is ruling.Paid (authorization_in group) (claim_in group) (money_in group) rejection
-by_status group (Ok status.Duplicate) rejection same =
-    ap (λ p. or_rejection (p >>= λ x. Ok (Some (ruling.Duplicate x.0 x.1 x.2))) rejection) (payment_is group) ∙ paid_is ruling.Duplicate (authorization_in group) (claim_in group) (money_in group) rejection
-by_status group (Ok status.Reversed) rejection same =
-    (λ i. or_rejection (authorization_is group i >>= λ auth. claim_is group i >>= λ prescription. Ok (Some (ruling.Reversed auth prescription))) rejection) ∙ reversed_is (authorization_in group) (claim_in group) rejection
-by_status group (Ok status.Rejected) rejection same = same
+by_status : (by : Speaker) (group : List SegmentParts) (s : Result Status AnswerFault) (rejection : Result Ruling AnswerFault) → rejection ≡ rejection_in group
+    → or_rejection (s >>= ruled_under by (all_answer_counted group)) rejection ≡ (s >>= ruling_under by group)
+by_status by group (Err e) rejection same = refl
+by_status by group (Ok status.Paid) rejection same =
+    ap (λ p. or_rejection (p >>= λ x. Ok (Some (ruling.Paid x.0 x.1 x.2))) rejection) (payment_is by group) ∙ paid_is ruling.Paid (authorization_in by group) (claim_in group) (money_in by group) rejection
+by_status by group (Ok status.Duplicate) rejection same =
+    ap (λ p. or_rejection (p >>= λ x. Ok (Some (ruling.Duplicate x.0 x.1 x.2))) rejection) (payment_is by group) ∙ paid_is ruling.Duplicate (authorization_in by group) (claim_in group) (money_in by group) rejection
+by_status by group (Ok status.Reversed) rejection same =
+    (λ i. or_rejection (authorization_is by group i >>= λ auth. claim_is group i >>= λ prescription. Ok (Some (ruling.Reversed auth prescription))) rejection) ∙ reversed_is (authorization_in by group) (claim_in group) rejection
+by_status by group (Ok status.Rejected) rejection same = same
 
 -- what is known of all values gives the ruling that they say
-pub ruling_is : (h : Response) (group : List SegmentParts) (t : AnswerTally) → t ≡ answer_counted no_answer_seen group
-    → or_rejection (ruled_seen h t) (rejection_with (some_codes (codes_counted (Some []) (values_in (codes "21") (codes "FB") group))) (required_seen (number_up_to 2) t.reject_count)) ≡ ruling_in h group
+pub ruling_is : (by : Speaker) (h : Response) (group : List SegmentParts) (t : AnswerTally) → t ≡ answer_counted no_answer_seen group
+    → or_rejection (ruled_seen by h t) (rejection_with (some_codes (codes_counted (Some []) (values_in (codes "21") (codes "FB") group))) (required_seen (number_up_to 2) t.reject_count)) ≡ ruling_in by h group
 unfolding ruling_in
-ruling_is h group t e =
-    ap (λ u. or_rejection (ruled_seen h u) (rejection_with (some_codes (codes_counted (Some []) (values_in (codes "21") (codes "FB") group))) (required_seen (number_up_to 2) u.reject_count))) (e ∙ is_all_answer_counted group)
-    ∙ ap (λ s. or_rejection (s >>= ruled_under (all_answer_counted group)) (rejection_with (some_codes (codes_counted (Some []) (values_in (codes "21") (codes "FB") group))) (required_seen (number_up_to 2) (all_answer_counted group).reject_count))) (status_is h group)
-    ∙ by_status group (status_in h group) (rejection_with (some_codes (codes_counted (Some []) (values_in (codes "21") (codes "FB") group))) (required_seen (number_up_to 2) (all_answer_counted group).reject_count)) (rejection_is group)
+ruling_is by h group t e =
+    ap (λ u. or_rejection (ruled_seen by h u) (rejection_with (some_codes (codes_counted (Some []) (values_in (codes "21") (codes "FB") group))) (required_seen (number_up_to 2) u.reject_count))) (e ∙ is_all_answer_counted group)
+    ∙ ap (λ s. or_rejection (s >>= ruled_under by (all_answer_counted group)) (rejection_with (some_codes (codes_counted (Some []) (values_in (codes "21") (codes "FB") group))) (required_seen (number_up_to 2) (all_answer_counted group).reject_count))) (status_is h group)
+    ∙ by_status by group (status_in h group) (rejection_with (some_codes (codes_counted (Some []) (values_in (codes "21") (codes "FB") group))) (required_seen (number_up_to 2) (all_answer_counted group).reject_count)) (rejection_is group)

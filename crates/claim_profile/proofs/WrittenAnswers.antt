@@ -11,18 +11,20 @@ use Rattle.d0_segments.specs.Parts.{TransmissionParts, are_fields, is_segment, i
 use Rattle.d0_segments.specs.Texts.{fields_text, segment_text, segments_text, groups_text}
 use Rattle.d0_segments.specs.Framing.{response_kind, transmission_text, IsResponseFramed, transmission_of}
 use Rattle.claim_profile.specs.declared.reject.Code.{Code}
-use Rattle.claim_profile.specs.declared.reject.Code.TheVariants.{Bin, Cardholder, DateOfService, Prescription, FillNumber, Product, IngredientCost, Quantity, DispensingFee, NotCovered, DuplicateClaim, ReversalNotProcessed}
 use Rattle.claim_profile.specs.declared.ruling.Ruling.{Ruling}
 use Rattle.claim_profile.specs.declared.ruling.Ruling.TheVariants.{Paid, Duplicate, Reversed, Rejected}
 use Rattle.claim_profile.specs.declared.ruling.HeaderStatus.{HeaderStatus}
 use Rattle.claim_profile.specs.declared.ruling.HeaderStatus.TheVariants as header
+use Rattle.claim_profile.specs.declared.answer_reading.Speaker.TheVariants as speaker
 use Rattle.claim_profile.specs.Authorization.{Authorization, authorization_text}
 use Rattle.claim_profile.specs.Money.{Money, IsMoney}
 use Rattle.claim_profile.specs.Answer.{status_byte_of, status_segment, claim_segment, pricing_segment, code_field, reject_segment, ruling_segments, ruling_groups, answer_parts, answer_text, IsPrescription, StandsBeside}
-use Rattle.claim_profile.specs.Ruling.{rulings_in, answer_with, answer_of}
-use Rattle.claim_profile.specs.Answering.{IsConstructible, Answers, answered}
+use Rattle.claim_profile.specs.Reject.{code_text}
+use Rattle.claim_profile.specs.Ruling.{IsCode, rulings_in, answer_with, said_by, answer_of}
+use Rattle.claim_profile.specs.Answering.{AreRejects, IsConstructible, Answers, answered}
 use Rattle.claim_profile.proofs.PaddedNumbers.{length-authorization_text}
 use Rattle.claim_profile.proofs.PlainTexts.{number_plain, amount_plain, authorization_plain, number_fits, amount_fits}
+use Rattle.claim_profile.proofs.CodeLemmas.{code_parts}
 use Rattle.claim_profile.proofs.WrittenGroups.{NumbersReadBack, AmountsReadBack, ruling_read}
 
 -- ---- framing
@@ -39,34 +41,23 @@ pricing_framed : (m : Money) → is_segment (pricing_segment m) ≡ true
 unfolding pricing_segment
 pricing_framed m = rw (amount_plain m.copay, amount_plain m.cost, amount_plain m.fee, amount_plain m.total) refl
 
-codes_framed : (rejects : List Code) → are_fields (map code_field rejects) ≡ true
-codes_framed [] = refl
-codes_framed (Bin ∷ rejects) = codes_framed rejects
-codes_framed (Cardholder ∷ rejects) = codes_framed rejects
-codes_framed (DateOfService ∷ rejects) = codes_framed rejects
-codes_framed (Prescription ∷ rejects) = codes_framed rejects
-codes_framed (FillNumber ∷ rejects) = codes_framed rejects
-codes_framed (Product ∷ rejects) = codes_framed rejects
-codes_framed (IngredientCost ∷ rejects) = codes_framed rejects
-codes_framed (Quantity ∷ rejects) = codes_framed rejects
-codes_framed (DispensingFee ∷ rejects) = codes_framed rejects
-codes_framed (NotCovered ∷ rejects) = codes_framed rejects
-codes_framed (DuplicateClaim ∷ rejects) = codes_framed rejects
-codes_framed (ReversalNotProcessed ∷ rejects) = codes_framed rejects
+codes_framed : (rejects : List Code) → AllByRecursion IsCode rejects → are_fields (map code_field rejects) ≡ true
+codes_framed [] are = refl
+codes_framed (code ∷ rejects) are = rw ((code_parts code are.0).plain, codes_framed rejects are.1) refl
 
-rejects_framed : (rejects : List Code) → is_segment (reject_segment rejects) ≡ true
+rejects_framed : (rejects : List Code) → AllByRecursion IsCode rejects → is_segment (reject_segment rejects) ≡ true
 unfolding reject_segment
-rejects_framed rejects = rw (number_plain (length rejects), codes_framed rejects) refl
+rejects_framed rejects are = rw (number_plain (length rejects), codes_framed rejects are) refl
 
-group_framed : (r : Ruling) → is_group (ruling_segments r) ≡ true
-group_framed (Paid auth prescription m) = rw (status_framed (codes "P") auth refl, claim_framed prescription, pricing_framed m) refl
-group_framed (Duplicate auth prescription m) = rw (status_framed (codes "D") auth refl, claim_framed prescription, pricing_framed m) refl
-group_framed (Reversed auth prescription) = rw (status_framed (codes "A") auth refl, claim_framed prescription) refl
-group_framed (Rejected rejects) = rw (rejects_framed rejects) refl
+group_framed : (r : Ruling) → IsConstructible r → is_group (ruling_segments r) ≡ true
+group_framed (Paid auth prescription m) made = rw (status_framed (codes "P") auth refl, claim_framed prescription, pricing_framed m) refl
+group_framed (Duplicate auth prescription m) made = rw (status_framed (codes "D") auth refl, claim_framed prescription, pricing_framed m) refl
+group_framed (Reversed auth prescription) made = rw (status_framed (codes "A") auth refl, claim_framed prescription) refl
+group_framed (Rejected rejects) made = rw (rejects_framed rejects made.2) refl
 
-groups_framed : (rulings : List Ruling) → are_groups (ruling_groups rulings) ≡ true
-groups_framed [] = refl
-groups_framed (r ∷ rulings) = rw (group_framed r, groups_framed rulings) refl
+groups_framed : (rulings : List Ruling) → AllByRecursion IsConstructible rulings → are_groups (ruling_groups rulings) ≡ true
+groups_framed [] made = refl
+groups_framed (r ∷ rulings) made = rw (group_framed r made.0, groups_framed rulings made.1) refl
 
 abbrev pub SoundAnswers : Type 0
 SoundAnswers = (h : Request) (status : ℕ) → IsRequest h → IsTrue (is_plain_byte status) → IsResponse (answer_to h status)
@@ -80,14 +71,14 @@ answer_framed sound h s rulings a =
     record {
       header = sound h (status_byte_of s) a.header (plain_status s);
       shared = refl;
-      groups = groups_framed rulings;
+      groups = groups_framed rulings a.made;
       count = sym (length-map rulings ruling_segments ∙ a.count);
     }
 
 -- ---- reading
 
 rulings_read : NumbersReadBack → AmountsReadBack → (h : Request) (s : HeaderStatus) (rulings : List Ruling) → AllByRecursion IsConstructible rulings → AllByRecursion (StandsBeside s) rulings
-    → rulings_in (answer_to h (status_byte_of s)) (ruling_groups rulings) ≡ Ok rulings
+    → rulings_in speaker.Book (answer_to h (status_byte_of s)) (ruling_groups rulings) ≡ Ok rulings
 unfolding rulings_in
 rulings_read numbers amounts h s [] made beside = refl
 rulings_read numbers amounts h s (r ∷ rulings) made beside =
@@ -97,9 +88,9 @@ abbrev pub ResponsesReadAgain : Type 0
 ResponsesReadAgain = (t : TransmissionParts Response) → IsResponseFramed t → transmission_of response_kind (transmission_text response_kind t) ≡ Some t
 
 pub answer_reads : NumbersReadBack → AmountsReadBack → SoundAnswers → ResponsesReadAgain → (h : Request) (s : HeaderStatus) (rulings : List Ruling) → Answers h s rulings → answer_of (answer_text h s rulings) ≡ Ok (answered h s rulings)
-unfolding answer_of answer_text
+unfolding said_by answer_text
 answer_reads numbers amounts sound again h s rulings a =
-    ap answer_with (again (answer_parts h s rulings) (answer_framed sound h s rulings a))
+    ap (answer_with speaker.Book) (again (answer_parts h s rulings) (answer_framed sound h s rulings a))
     ∙ rw (rulings_read numbers amounts h s rulings a.made a.beside) refl
 
 -- ---- length
@@ -132,26 +123,17 @@ length-pricing amounts m is =
     let total = length-amount amounts m.total is.total in
     omega (arith, pricing_lengths (amount_text (pos m.copay)) (amount_text (pos m.cost)) (amount_text (pos m.fee)) (amount_text (pos m.total)))
 
-length-codes : (rejects : List Code) → length (fields_text (map code_field rejects)) ≡ 5 * length rejects
-length-codes [] = refl
-length-codes (Bin ∷ rejects) = omega (arith, length-codes rejects)
-length-codes (Cardholder ∷ rejects) = omega (arith, length-codes rejects)
-length-codes (DateOfService ∷ rejects) = omega (arith, length-codes rejects)
-length-codes (Prescription ∷ rejects) = omega (arith, length-codes rejects)
-length-codes (FillNumber ∷ rejects) = omega (arith, length-codes rejects)
-length-codes (Product ∷ rejects) = omega (arith, length-codes rejects)
-length-codes (IngredientCost ∷ rejects) = omega (arith, length-codes rejects)
-length-codes (Quantity ∷ rejects) = omega (arith, length-codes rejects)
-length-codes (DispensingFee ∷ rejects) = omega (arith, length-codes rejects)
-length-codes (NotCovered ∷ rejects) = omega (arith, length-codes rejects)
-length-codes (DuplicateClaim ∷ rejects) = omega (arith, length-codes rejects)
-length-codes (ReversalNotProcessed ∷ rejects) = omega (arith, length-codes rejects)
+length-codes : (rejects : List Code) → AllByRecursion IsCode rejects → length (fields_text (map code_field rejects)) ≤ 6 * length rejects
+length-codes [] are = omega arith
+length-codes (code ∷ rejects) are =
+    omega (arith, (code_parts code are.0).short, length-append (code_text code) (fields_text (map code_field rejects)), length-codes rejects are.1)
 
-length-rejects : NumbersReadBack → (rejects : List Code) → length rejects ≤ 5 → length (segment_text (reject_segment rejects)) ≤ 40
+length-rejects : NumbersReadBack → (rejects : List Code) → AreRejects rejects → length (segment_text (reject_segment rejects)) ≤ 45
 unfolding reject_segment
-length-rejects numbers rejects few =
+length-rejects numbers rejects are =
+    let few : length rejects ≤ 5 = are.1 in
     let fits = number_fits 2 (number_text (length rejects)) (length rejects) (numbers 2 (length rejects) (omega arith) (omega arith)) in
-    omega (arith, fits.few, length-append (number_text (length rejects)) (fields_text (map code_field rejects)), length-append (fields_text (map code_field rejects)) [], length-codes rejects)
+    omega (arith, fits.few, length-append (number_text (length rejects)) (fields_text (map code_field rejects)), length-append (fields_text (map code_field rejects)) [], length-codes rejects are.2)
 
 length-three : (a b c : List ℕ) → length (a ++ (b ++ (c ++ []))) ≡ length a + length b + length c
 length-three a b c = omega (arith, length-append {A = ℕ})
@@ -178,7 +160,7 @@ length-ruling numbers amounts (Paid auth prescription m) made = length-payment n
 length-ruling numbers amounts (Duplicate auth prescription m) made = length-payment numbers amounts 68 auth prescription m made.1 made.2
 length-ruling numbers amounts (Reversed auth prescription) made =
     omega (arith, length-two (segment_text (status_segment (65 ∷ []) auth)) (segment_text (claim_segment prescription)), length-status (65 ∷ []) auth, length-claim numbers prescription made.1)
-length-ruling numbers amounts (Rejected rejects) made = omega (arith, length-one (segment_text (reject_segment rejects)), length-rejects numbers rejects made.1)
+length-ruling numbers amounts (Rejected rejects) made = omega (arith, length-one (segment_text (reject_segment rejects)), length-rejects numbers rejects made)
 
 length-rulings : NumbersReadBack → AmountsReadBack → (rulings : List Ruling) → AllByRecursion IsConstructible rulings → length (groups_text (ruling_groups rulings)) ≤ 105 * length rulings
 length-rulings numbers amounts [] made = omega arith

@@ -3,6 +3,7 @@ use Rattle.std.specs.Prelude.{◌≡◌, ℕ, ◌≤◌, List, [], ◌∷◌, le
 use Rattle.std.specs.List.{AllByRecursion}
 use Rattle.d0_header.specs.Request.{Request, IsRequest}
 use Rattle.d0_header.specs.Response.{answer_to}
+use Rattle.claim_profile.specs.declared.reject.Code.{Code}
 use Rattle.claim_profile.specs.declared.reject.Code.TheVariants.{Bin}
 use Rattle.claim_profile.specs.declared.ruling.Ruling.{Ruling}
 use Rattle.claim_profile.specs.declared.ruling.Ruling.TheVariants as ruling
@@ -13,14 +14,18 @@ use Rattle.claim_profile.specs.Transaction.{code_bytes}
 use Rattle.claim_profile.specs.Authorization.{IsAuthorization}
 use Rattle.claim_profile.specs.Money.{IsMoney}
 use Rattle.claim_profile.specs.Answer.{status_byte_of, answer_text, IsPrescription, StandsBeside}
-use Rattle.claim_profile.specs.Ruling.{AnswerParts}
+use Rattle.claim_profile.specs.Ruling.{AnswerParts, IsCode}
+
+-- one to five codes, each of which is read from its text
+abbrev pub AreRejects : List Code → Type 0
+AreRejects rejects = (1 ≤ length rejects) × (length rejects ≤ 5) × AllByRecursion IsCode rejects
 
 -- a ruling of what the constructors take: an authorization and amounts in their ranges, a prescription number of at most twelve digits, one to five codes
 abbrev pub IsConstructible : Ruling → Type 0
 IsConstructible (ruling.Paid auth prescription amounts) = IsAuthorization auth.payer auth.serial × IsPrescription prescription × IsMoney amounts
 IsConstructible (ruling.Duplicate auth prescription amounts) = IsAuthorization auth.payer auth.serial × IsPrescription prescription × IsMoney amounts
 IsConstructible (ruling.Reversed auth prescription) = IsAuthorization auth.payer auth.serial × IsPrescription prescription
-IsConstructible (ruling.Rejected rejects) = (1 ≤ length rejects) × (length rejects ≤ 5)
+IsConstructible (ruling.Rejected rejects) = AreRejects rejects
 
 -- what can be answered to a request: a ruling of that kind for each transaction that its header counts, and beside status `R` rejections alone
 pub record Answers (h : Request) (status : HeaderStatus) (rulings : List Ruling) : Type 0 where

@@ -4,6 +4,7 @@ pub mod OrderTally
 pub mod Text
 pub mod Authorization
 pub mod Money
+pub mod CodeTexts
 pub mod Reject
 pub mod Transaction
 pub mod Order
@@ -13,6 +14,8 @@ pub mod OrderSeen
 pub mod Answer
 pub mod AnswerTally
 pub mod Ruling
+pub mod CodeNames
 pub mod RulingSeen
+pub mod Unnamed
 pub mod Answering
 pub mod Building

@@ -1,7 +1,7 @@
 -- Reject codes.
 use Rattle.std.specs.Prelude.{ℕ, ◌-◌, Bool, List, length, take, map, filter, replicate, codes}
 use Rattle.claim_profile.specs.declared.reject.Code.{Code}
-use Rattle.claim_profile.specs.declared.reject.Code.TheVariants.{Bin, Cardholder, DateOfService, Prescription, FillNumber, Product, IngredientCost, Quantity, DispensingFee, NotCovered, DuplicateClaim, ReversalNotProcessed}
+use Rattle.claim_profile.specs.declared.reject.Code.TheVariants.{Bin, Cardholder, DateOfService, Prescription, FillNumber, Product, IngredientCost, Quantity, DispensingFee, NotCovered, DuplicateClaim, ReversalNotProcessed, Other}
 
 -- what stands after the codes in a room for five
 abbrev pub padding : List Code → List Code
@@ -15,7 +15,7 @@ held conditions = map (λ c. c.1) (filter (λ c. c.0) conditions)
 abbrev pub first_five_held : List (Bool × Code) → List Code
 first_five_held conditions = take 5 (held conditions)
 
--- the two bytes of a code
+-- the two or three bytes of a code
 abbrev pub code_text : Code → List ℕ
 code_text Bin = codes "01"
 code_text Cardholder = codes "07"
@@ -29,3 +29,4 @@ code_text DispensingFee = codes "DC"
 code_text NotCovered = codes "70"
 code_text DuplicateClaim = codes "83"
 code_text ReversalNotProcessed = codes "87"
+code_text (Other text) = text

@@ -10,11 +10,15 @@ use Rattle.claim_profile.specs.declared.ruling.Ruling.{Ruling}
 use Rattle.claim_profile.specs.declared.ruling.Ruling.TheVariants as ruling
 use Rattle.claim_profile.specs.declared.answer_reading.Status.{Status}
 use Rattle.claim_profile.specs.declared.answer_reading.Status.TheVariants as status
+use Rattle.claim_profile.specs.declared.answer_reading.Speaker.{Speaker}
+use Rattle.claim_profile.specs.declared.answer_reading.Speaker.TheVariants as speaker
 use Rattle.claim_profile.specs.declared.answer_reading.AnswerFault.{AnswerFault}
 use Rattle.claim_profile.specs.declared.answer_reading.AnswerFault.TheVariants.{OutOfMemory, Framing, NoStatus, BadStatus, BadAmount, BadAuthorization, BadRejects, BadClaim}
 use Rattle.claim_profile.specs.Authorization.{Authorization, authorization_of}
-use Rattle.claim_profile.specs.Money.{Money, money_with}
-use Rattle.claim_profile.specs.Fields.{values_in, texts_in, required}
+use Rattle.claim_profile.specs.Money.{Money}
+use Rattle.claim_profile.specs.CodeTexts.{other_code}
+use Rattle.claim_profile.specs.Reject.{code_text}
+use Rattle.claim_profile.specs.Fields.{values_in, texts_in, required, optional}
 use Rattle.claim_profile.specs.Order.{number_up_to, amount_in_cents, qualified}
 
 infixl 10 ◌>>=◌
@@ -66,8 +70,14 @@ status_in h group = do
 
 -- ---- the parts of a ruling
 
-abbrev pub authorization_in : List SegmentParts → Result Authorization AnswerFault
-authorization_in group = or_fault BadAuthorization (required authorization_of (values_in (codes "21") (codes "F3") group))
+-- what stands for an authorization number that is not looked at
+abbrev pub unread : Authorization
+unread = record { payer = 1; serial = 1 }
+
+-- the authorization number: of a book; of a payer's own system it may be any or none
+abbrev pub authorization_in : Speaker → List SegmentParts → Result Authorization AnswerFault
+authorization_in speaker.Book group = or_fault BadAuthorization (required authorization_of (values_in (codes "21") (codes "F3") group))
+authorization_in speaker.System group = Ok unread
 
 abbrev pub claim_in : List SegmentParts → Result ℕ AnswerFault
 claim_in group = or_fault BadClaim (qualified (codes "1") (texts_in (codes "22") (codes "EM") group) (required (number_up_to 12) (values_in (codes "22") (codes "D2") group)))
@@ -75,17 +85,22 @@ claim_in group = or_fault BadClaim (qualified (codes "1") (texts_in (codes "22")
 -- four amounts that are there
 abbrev pub money_of : (cost fee copay total : Option ℕ) → Option Money
 money_of cost fee copay total =
-    option_and_then (λ c. option_and_then (λ f. option_and_then (λ p. option_and_then (λ t. money_with c f p t) total) copay) fee) cost
+    option_and_then (λ c. option_and_then (λ f. option_and_then (λ p. option_map (λ t. record { cost = c; fee = f; copay = p; total = t }) total) copay) fee) cost
 
 abbrev pub amount_at : List ℕ → List SegmentParts → Option ℕ
 amount_at name group = required amount_in_cents (values_in (codes "23") name group)
 
-abbrev pub money_in : List SegmentParts → Result Money AnswerFault
-money_in group = or_fault BadAmount (money_of (amount_at (codes "F6") group) (amount_at (codes "F7") group) (amount_at (codes "F5") group) (amount_at (codes "F9") group))
+-- the fee that is paid, which a payer's own system may leave out
+abbrev pub fee_in : Speaker → List SegmentParts → Option ℕ
+fee_in speaker.Book group = amount_at (codes "F7") group
+fee_in speaker.System group = optional 0 amount_in_cents (values_in (codes "23") (codes "F7") group)
 
--- the code that a text is
-abbrev pub code_of : List ℕ → Option Code
-code_of text =
+abbrev pub money_in : Speaker → List SegmentParts → Result Money AnswerFault
+money_in by group = or_fault BadAmount (money_of (amount_at (codes "F6") group) (fee_in by group) (amount_at (codes "F5") group) (amount_at (codes "F9") group))
+
+-- the one of the twelve codes that a text is
+abbrev pub known_code : List ℕ → Option Code
+known_code text =
     if bytes_eq text (codes "01") then Some code.Bin
     else if bytes_eq text (codes "07") then Some code.Cardholder
     else if bytes_eq text (codes "15") then Some code.DateOfService
@@ -99,6 +114,19 @@ code_of text =
     else if bytes_eq text (codes "83") then Some code.DuplicateClaim
     else if bytes_eq text (codes "87") then Some code.ReversalNotProcessed
     else None
+
+-- this code, else the other one that a text is
+abbrev pub or_other : Option Code → List ℕ → Option Code
+or_other (Some c) text = Some c
+or_other None text = option_map code.Other (other_code text)
+
+-- the code that a text is: one of the twelve, or another one
+abbrev pub code_of : List ℕ → Option Code
+code_of text = or_other (known_code text) text
+
+-- a code that its text is read as
+abbrev pub IsCode : Code → Type 0
+IsCode c = code_of (code_text c) ≡ Some c
 
 -- the codes that texts are, where each is one
 abbrev pub codes_of : List (List ℕ) → Option (List Code)
@@ -117,16 +145,16 @@ rejects_in group = or_fault BadRejects (counted_codes (required (number_up_to 2)
 -- ---- the ruling
 
 -- authorization, prescription number and amounts, in this order
-abbrev pub payment_in : (Authorization → ℕ → Money → Ruling) → List SegmentParts → Result Ruling AnswerFault
-payment_in paid group = do
-  auth ← authorization_in group
+abbrev pub payment_in : Speaker → (Authorization → ℕ → Money → Ruling) → List SegmentParts → Result Ruling AnswerFault
+payment_in by paid group = do
+  auth ← authorization_in by group
   prescription ← claim_in group
-  amounts ← money_in group
+  amounts ← money_in by group
   Ok (paid auth prescription amounts)
 
-abbrev pub reversal_in : List SegmentParts → Result Ruling AnswerFault
-reversal_in group = do
-  auth ← authorization_in group
+abbrev pub reversal_in : Speaker → List SegmentParts → Result Ruling AnswerFault
+reversal_in by group = do
+  auth ← authorization_in by group
   prescription ← claim_in group
   Ok (ruling.Reversed auth prescription)
 
@@ -136,24 +164,24 @@ rejection_in group = do
   Ok (ruling.Rejected rejects)
 
 -- the ruling of a status
-abbrev pub ruling_under : List SegmentParts → Status → Result Ruling AnswerFault
-ruling_under group status.Paid = payment_in ruling.Paid group
-ruling_under group status.Duplicate = payment_in ruling.Duplicate group
-ruling_under group status.Reversed = reversal_in group
-ruling_under group status.Rejected = rejection_in group
+abbrev pub ruling_under : Speaker → List SegmentParts → Status → Result Ruling AnswerFault
+ruling_under by group status.Paid = payment_in by ruling.Paid group
+ruling_under by group status.Duplicate = payment_in by ruling.Duplicate group
+ruling_under by group status.Reversed = reversal_in by group
+ruling_under by group status.Rejected = rejection_in group
 
 -- the ruling that the segments of one transaction spell under a header
-unfoldable pub ruling_in : Response → List SegmentParts → Result Ruling AnswerFault
-ruling_in h group = do
+unfoldable pub ruling_in : Speaker → Response → List SegmentParts → Result Ruling AnswerFault
+ruling_in by h group = do
   status ← status_in h group
-  ruling_under group status
+  ruling_under by group status
 
 -- the rulings of groups, or the fault of the first that has one
-unfoldable pub rulings_in : Response → List (List SegmentParts) → Result (List Ruling) AnswerFault
-rulings_in h [] = Ok []
-rulings_in h (group ∷ groups) = do
-  first ← ruling_in h group
-  others ← rulings_in h groups
+unfoldable pub rulings_in : Speaker → Response → List (List SegmentParts) → Result (List Ruling) AnswerFault
+rulings_in by h [] = Ok []
+rulings_in by h (group ∷ groups) = do
+  first ← ruling_in by h group
+  others ← rulings_in by h groups
   Ok (first ∷ others)
 
 -- what an answer says: the header of the response, and a ruling for each transaction
@@ -161,15 +189,23 @@ pub record AnswerParts : Type 0 where
   pub header : Response
   pub rulings : List Ruling
 
-abbrev pub answer_with : Option (TransmissionParts Response) → Result AnswerParts AnswerFault
-answer_with None = Err Framing
-answer_with (Some t) = do
-  rulings ← rulings_in t.header t.groups
+abbrev pub answer_with : Speaker → Option (TransmissionParts Response) → Result AnswerParts AnswerFault
+answer_with by None = Err Framing
+answer_with by (Some t) = do
+  rulings ← rulings_in by t.header t.groups
   Ok (record { header = t.header; rulings = rulings })
 
--- the answer that bytes spell, or the first fault
-unfoldable pub answer_of : List ℕ → Result AnswerParts AnswerFault
-answer_of bytes = answer_with (transmission_of response_kind bytes)
+-- the answer that bytes of this speaker spell, or the first fault
+unfoldable pub said_by : Speaker → List ℕ → Result AnswerParts AnswerFault
+said_by by bytes = answer_with by (transmission_of response_kind bytes)
+
+-- the answer of a book
+abbrev pub answer_of : List ℕ → Result AnswerParts AnswerFault
+answer_of bytes = said_by speaker.Book bytes
+
+-- the answer of a payer's own system, each authorization number of which stands as unread
+abbrev pub advice_of : List ℕ → Result AnswerParts AnswerFault
+advice_of bytes = said_by speaker.System bytes
 
 -- what an error says of what should have been read; want of memory says nothing
 abbrev pub FailsAs : {A : Type 0} → AnswerFault → Result A AnswerFault → Type 0

@@ -7,6 +7,8 @@ use Rattle.claim_profile.specs.declared.ruling.Ruling.{Ruling}
 use Rattle.claim_profile.specs.declared.ruling.Ruling.TheVariants as ruling
 use Rattle.claim_profile.specs.declared.answer_reading.Status.{Status}
 use Rattle.claim_profile.specs.declared.answer_reading.Status.TheVariants as status
+use Rattle.claim_profile.specs.declared.answer_reading.Speaker.{Speaker}
+use Rattle.claim_profile.specs.declared.answer_reading.Speaker.TheVariants as speaker
 use Rattle.claim_profile.specs.declared.answer_reading.AnswerFault.{AnswerFault}
 use Rattle.claim_profile.specs.declared.answer_reading.AnswerFault.TheVariants.{NoStatus, BadAmount, BadAuthorization, BadRejects, BadClaim}
 use Rattle.claim_profile.specs.declared.answer_values.FoundCodes.{FoundCodes}
@@ -15,33 +17,38 @@ use Rattle.claim_profile.specs.Money.{Money}
 use Rattle.claim_profile.specs.Fields.{untrimmed, values, fields_of}
 use Rattle.claim_profile.specs.Tally.{Tally, the_one}
 use Rattle.claim_profile.specs.Order.{number_up_to, amount_in_cents}
-use Rattle.claim_profile.specs.OrderSeen.{required_seen, qualified_seen}
+use Rattle.claim_profile.specs.OrderSeen.{required_seen, optional_seen, qualified_seen}
 use Rattle.claim_profile.specs.AnswerTally.{AnswerTally}
-use Rattle.claim_profile.specs.Ruling.{◌>>=◌, or_fault, status_of, checked_status, money_of, code_of}
+use Rattle.claim_profile.specs.Ruling.{◌>>=◌, or_fault, status_of, checked_status, unread, money_of, code_of}
 
 abbrev pub status_seen : Response → Tally → Result Status AnswerFault
 status_seen h t = do
   text ← or_fault NoStatus (the_one t)
   checked_status h (status_of text)
 
-abbrev pub authorization_seen : Tally → Result Authorization AnswerFault
-authorization_seen t = or_fault BadAuthorization (required_seen authorization_of t)
+abbrev pub authorization_seen : Speaker → Tally → Result Authorization AnswerFault
+authorization_seen speaker.Book t = or_fault BadAuthorization (required_seen authorization_of t)
+authorization_seen speaker.System t = Ok unread
 
 abbrev pub claim_number_seen : AnswerTally → Result ℕ AnswerFault
 claim_number_seen t = or_fault BadClaim (qualified_seen (codes "1") t.prescription_qualifier (required_seen (number_up_to 12) t.prescription))
 
-abbrev pub all_money_seen : AnswerTally → Option Money
-all_money_seen t = money_of (required_seen amount_in_cents t.cost) (required_seen amount_in_cents t.fee) (required_seen amount_in_cents t.copay) (required_seen amount_in_cents t.total)
+abbrev pub fee_said : Speaker → Tally → Option ℕ
+fee_said speaker.Book t = required_seen amount_in_cents t
+fee_said speaker.System t = optional_seen 0 amount_in_cents t
 
-abbrev pub money_seen : AnswerTally → Result Money AnswerFault
-money_seen t = or_fault BadAmount (all_money_seen t)
+abbrev pub all_money_seen : Speaker → AnswerTally → Option Money
+all_money_seen by t = money_of (required_seen amount_in_cents t.cost) (fee_said by t.fee) (required_seen amount_in_cents t.copay) (required_seen amount_in_cents t.total)
+
+abbrev pub money_seen : Speaker → AnswerTally → Result Money AnswerFault
+money_seen by t = or_fault BadAmount (all_money_seen by t)
 
 -- authorization, prescription number and amounts, in this order
-abbrev pub payment_seen : AnswerTally → Result (Authorization × ℕ × Money) AnswerFault
-payment_seen t = do
-  auth ← authorization_seen t.authorization
+abbrev pub payment_seen : Speaker → AnswerTally → Result (Authorization × ℕ × Money) AnswerFault
+payment_seen by t = do
+  auth ← authorization_seen by t.authorization
   prescription ← claim_number_seen t
-  amounts ← money_seen t
+  amounts ← money_seen by t
   Ok (auth, prescription, amounts)
 
 -- the codes so far, where each value is one and there are at most five
@@ -69,23 +76,23 @@ some_codes None = None
 some_codes (Some found) = if nat_le 1 (length found) then Some found else None
 
 -- the ruling of a status, None where it is a rejection
-abbrev pub ruled_under : AnswerTally → Status → Result (Option Ruling) AnswerFault
-ruled_under t status.Paid = do
-  p ← payment_seen t
+abbrev pub ruled_under : Speaker → AnswerTally → Status → Result (Option Ruling) AnswerFault
+ruled_under by t status.Paid = do
+  p ← payment_seen by t
   Ok (Some (ruling.Paid p.0 p.1 p.2))
-ruled_under t status.Duplicate = do
-  p ← payment_seen t
+ruled_under by t status.Duplicate = do
+  p ← payment_seen by t
   Ok (Some (ruling.Duplicate p.0 p.1 p.2))
-ruled_under t status.Reversed = do
-  auth ← authorization_seen t.authorization
+ruled_under by t status.Reversed = do
+  auth ← authorization_seen by t.authorization
   prescription ← claim_number_seen t
   Ok (Some (ruling.Reversed auth prescription))
-ruled_under t status.Rejected = Ok None
+ruled_under by t status.Rejected = Ok None
 
-abbrev pub ruled_seen : Response → AnswerTally → Result (Option Ruling) AnswerFault
-ruled_seen h t = do
+abbrev pub ruled_seen : Speaker → Response → AnswerTally → Result (Option Ruling) AnswerFault
+ruled_seen by h t = do
   status ← status_seen h t.status
-  ruled_under t status
+  ruled_under by t status
 
 -- a rejection with as many codes as the count says
 abbrev pub rejection_with : Option (List Code) → Option ℕ → Result Ruling AnswerFault

@@ -1,13 +1,15 @@
 //! Reading answers.
 
-ghost use Rattle.std.specs.Prelude.{◌≡◌, ◌<◌, List, length, Some, Ok, Err, IfOk, IfErr, OnOk, IfSome};
+ghost use Rattle.std.specs.Prelude.{◌≡◌, ◌<◌, ◌≤◌, List, length, Some, Ok, Err, IfOk, IfErr, OnOk, IfSome};
 ghost use Rattle.d0_segments.specs.Pieces.{shared_of, groups_of};
 ghost use Rattle.d0_segments.specs.Cursors.{FindsGroup};
 ghost use Rattle.claim_profile.specs.Tally.{seen};
+ghost use Rattle.claim_profile.specs.Money.{largest};
 ghost use Rattle.claim_profile.specs.AnswerTally.{answer_seen};
-ghost use Rattle.claim_profile.specs.Ruling.{ruling_in, rulings_in, answer_of, FailsAs, status_of, stands_beside, stands_under};
-ghost use Rattle.claim_profile.specs.RulingSeen.{ruled_seen, status_seen, payment_seen, authorization_seen, claim_number_seen, money_seen, all_money_seen, rejection_in, or_rejection};
+ghost use Rattle.claim_profile.specs.Ruling.{ruling_in, rulings_in, said_by, answer_of, advice_of, FailsAs, status_of, stands_beside, stands_under};
+ghost use Rattle.claim_profile.specs.RulingSeen.{ruled_seen, status_seen, payment_seen, authorization_seen, claim_number_seen, fee_said, money_seen, all_money_seen, rejection_in, or_rejection};
 ghost use Rattle.claim_profile.specs.declared.answer_reading.AnswerFault.TheVariants.{OutOfMemory};
+ghost use Rattle.claim_profile.specs.declared.answer_reading.Speaker.TheVariants.{Book};
 
 use crate::answer_values::{AnswerValues, FoundCodes};
 use crate::authorization::Auth;
@@ -15,7 +17,7 @@ use crate::found::Found;
 use crate::names::is_same;
 use crate::paid::Amounts;
 use crate::ruling::Ruling;
-use crate::values::{cents, is_exactly, number};
+use crate::values::{cents, cents_if_given, is_exactly, number};
 use d0_header::ResponseHeader;
 use d0_segments::{Cursor, check_response};
 use std::alloc::{AllocError, AllocFailed, Global};
@@ -39,14 +41,15 @@ pub enum AnswerFault {
     /// response status (501-F1) is neither `A` nor `R`, or is `R` beside a status other than `R`.
     #[error("a response status is unknown or contradicts the header")]
     BadStatus,
-    /// One of the four amounts is missing, doubled, no amount or negative, or they do not go together.
-    #[error("the amounts of a transaction are missing or don't go together")]
+    /// One of the four amounts is missing, doubled, no amount or negative.
+    #[error("the amounts of a transaction are missing or invalid")]
     BadAmount,
     /// The authorization number (503-F3) is missing, doubled or not sixteen digits of a payer and
     /// a serial above zero.
     #[error("an authorization number is missing or invalid")]
     BadAuthorization,
-    /// The reject codes are missing, more than five, unknown or not as many as the reject count says.
+    /// The reject codes are missing, more than five, none of two or three digits and capital letters, or not as many as the
+    /// reject count says.
     #[error("the reject codes of a transaction are missing or invalid")]
     BadRejects,
     /// The prescription number or its qualifier is missing or invalid.
@@ -119,17 +122,43 @@ pub fn read_answer(alloc: Global, bytes: &[u8]) -> Result<Answer, AnswerFault>
     read_answer_into(Vec::new(alloc), bytes)
 }
 
+/// Reads what a payer's own system answers, as [`read_answer`] does, but for its authorization numbers (503-F3), which may be any
+/// or none and are not looked at, and for fees that are paid (507-F7): one that is not there is 0.
+pub fn read_advice(alloc: Global, bytes: &[u8]) -> Result<Answer, AnswerFault>
+    ensures read { IfOk result (λ advice. advice_of bytes.now ≡ Ok advice) }
+    ensures fault { IfErr result (λ fault. FailsAs fault (advice_of bytes.now)) }
+{
+    read_said(Speaker::System, Vec::new(alloc), bytes)
+}
+
 /// Reads an answer as [`read_answer`] does, its rulings into a list whose memory is used again. What the list held is gone.
 pub fn read_answer_into(list: Vec<Ruling>, bytes: &[u8]) -> Result<Answer, AnswerFault>
     ensures read { IfOk result (λ answer. answer_of bytes.now ≡ Ok answer) }
     ensures fault { IfErr result (λ fault. FailsAs fault (answer_of bytes.now)) }
+{
+    read_said(Speaker::Book, list, bytes)
+}
+
+/// Who gives an answer.
+#[derive(Clone, Copy)]
+enum Speaker {
+    /// A payer's book: its authorization numbers are read.
+    Book,
+    /// A payer's own system: its authorization numbers are not looked at.
+    System,
+}
+
+/// Reads an answer of this speaker, its rulings into a list whose memory is used again.
+fn read_said(by: Speaker, list: Vec<Ruling>, bytes: &[u8]) -> Result<Answer, AnswerFault>
+    ensures read { IfOk result (λ answer. said_by by bytes.now ≡ Ok answer) }
+    ensures fault { IfErr result (λ fault. FailsAs fault (said_by by bytes.now)) }
 {
     let framed = match check_response(bytes) {
         Ok(framed) => framed,
         Err(_) => return Err(AnswerFault::Framing),
     };
     let header = *framed.header();
-    let rulings = rulings_of(list, &header, framed.body(), framed.group_count())?;
+    let rulings = rulings_of(by, list, &header, framed.body(), framed.group_count())?;
     Ok(Answer { header, rulings })
 }
 
@@ -153,13 +182,13 @@ pub fn check_answer(bytes: &[u8]) -> Result<ResponseHeader, AnswerFault>
 fn check_rulings(header: &ResponseHeader, from: Cursor<'_>, count: usize) -> Result<(), AnswerFault>
     requires { count ≡ length (groups_of from.bytes.now) }
     ensures read { OnOk result ((rulings : List Ruling)
-        × (rulings_in header.now (groups_of from.entry.bytes.now) ≡ Ok rulings)) }
-    ensures fault { IfErr result (λ fault. rulings_in header.now (groups_of from.entry.bytes.now) ≡ Err fault) }
+        × (rulings_in Book header.now (groups_of from.entry.bytes.now) ≡ Ok rulings)) }
+    ensures fault { IfErr result (λ fault. rulings_in Book header.now (groups_of from.entry.bytes.now) ≡ Err fault) }
 {
     let mut rest = from;
     let mut left = count;
     while let Some(group) = next_group(rest, left) {
-        let _ruling = ruling(header, group)?;
+        let _ruling = ruling(Speaker::Book, header, group)?;
         rest = group;
         left -= 1;
     }
@@ -168,21 +197,23 @@ fn check_rulings(header: &ResponseHeader, from: Cursor<'_>, count: usize) -> Res
 
 /// The rulings of the groups after a place, this many, in order, in a list whose memory is used again.
 fn rulings_of(
+    by: Speaker,
     list: Vec<Ruling>,
     header: &ResponseHeader,
     from: Cursor<'_>,
     count: usize,
 ) -> Result<Vec<Ruling>, AnswerFault>
     requires { count ≡ length (groups_of from.bytes.now) }
-    ensures read { IfOk result (λ rulings. rulings_in header.now (groups_of from.entry.bytes.now) ≡ Ok rulings.items) }
-    ensures fault { IfErr result (λ fault. FailsAs fault (rulings_in header.now (groups_of from.entry.bytes.now))) }
+    ensures read { IfOk result (λ rulings. rulings_in by header.now (groups_of from.entry.bytes.now)
+        ≡ Ok rulings.items) }
+    ensures fault { IfErr result (λ fault. FailsAs fault (rulings_in by header.now (groups_of from.entry.bytes.now))) }
 {
     let mut rulings = list;
     rulings.clear();
     let mut rest = from;
     let mut left = count;
     while let Some(group) = next_group(rest, left) {
-        let ruling = ruling(header, group)?;
+        let ruling = ruling(by, header, group)?;
         rulings.push(ruling)?;
         rest = group;
         left -= 1;
@@ -213,34 +244,39 @@ enum Status {
 }
 
 /// The ruling that the segments of one transaction spell. Takes no memory.
-pub fn ruling(header: &ResponseHeader, group: Cursor<'_>) -> Result<Ruling, AnswerFault>
-    ensures { result ≡ ruling_in header.now (shared_of group.entry.bytes.now) }
+fn ruling(by: Speaker, header: &ResponseHeader, group: Cursor<'_>) -> Result<Ruling, AnswerFault>
+    ensures { result ≡ ruling_in by header.now (shared_of group.entry.bytes.now) }
 {
-    ruling_of(header, &AnswerValues::of(group), group)
+    ruling_of(by, header, &AnswerValues::of(group), group)
 }
 
 /// The ruling that these values of a group spell.
 fn ruling_of(
+    by: Speaker,
     header: &ResponseHeader,
     values: &AnswerValues<'_>,
     group: Cursor<'_>,
 ) -> Result<Ruling, AnswerFault>
-    ensures { result ≡ or_rejection (ruled_seen header.now (answer_seen values.now))
+    ensures { result ≡ or_rejection (ruled_seen by header.now (answer_seen values.now))
         (rejection_in (shared_of group.entry.bytes.now) (seen values.now.reject_count)) }
 {
-    match ruled(header, values)? {
+    match ruled(by, header, values)? {
         Some(ruling) => Ok(ruling),
         None => rejected(values.reject_count, group),
     }
 }
 
 /// The ruling that these values spell, None where the transaction is rejected.
-fn ruled(header: &ResponseHeader, values: &AnswerValues<'_>) -> Result<Option<Ruling>, AnswerFault>
-    ensures { result ≡ ruled_seen header.now (answer_seen values.now) }
+fn ruled(
+    by: Speaker,
+    header: &ResponseHeader,
+    values: &AnswerValues<'_>,
+) -> Result<Option<Ruling>, AnswerFault>
+    ensures { result ≡ ruled_seen by header.now (answer_seen values.now) }
 {
     match status_beside(header, values.status)? {
         Status::Paid => {
-            let (auth, prescription, amounts) = payment(values)?;
+            let (auth, prescription, amounts) = payment(by, values)?;
             Ok(Some(Ruling::Paid {
                 auth,
                 prescription,
@@ -248,7 +284,7 @@ fn ruled(header: &ResponseHeader, values: &AnswerValues<'_>) -> Result<Option<Ru
             }))
         }
         Status::Duplicate => {
-            let (auth, prescription, amounts) = payment(values)?;
+            let (auth, prescription, amounts) = payment(by, values)?;
             Ok(Some(Ruling::Duplicate {
                 auth,
                 prescription,
@@ -256,7 +292,7 @@ fn ruled(header: &ResponseHeader, values: &AnswerValues<'_>) -> Result<Option<Ru
             }))
         }
         Status::Reversed => {
-            let auth = authorization(values.authorization)?;
+            let auth = authorization(by, values.authorization)?;
             let prescription = prescription(values)?;
             Ok(Some(Ruling::Reversed { auth, prescription }))
         }
@@ -308,17 +344,26 @@ fn stands_under(header: u8, status: Status) -> bool
 }
 
 /// What a paid claim has: authorization number, prescription number and amounts.
-fn payment(values: &AnswerValues<'_>) -> Result<(Auth, u64, Amounts), AnswerFault>
-    ensures { result ≡ payment_seen (answer_seen values.now) }
+fn payment(by: Speaker, values: &AnswerValues<'_>) -> Result<(Auth, u64, Amounts), AnswerFault>
+    ensures { result ≡ payment_seen by (answer_seen values.now) }
 {
-    let auth = authorization(values.authorization)?;
+    let auth = authorization(by, values.authorization)?;
     let prescription = prescription(values)?;
-    let amounts = amounts(values)?;
+    let amounts = amounts(by, values)?;
     Ok((auth, prescription, amounts))
 }
 
-fn authorization(found: Found<'_>) -> Result<Auth, AnswerFault>
-    ensures { result ≡ authorization_seen (seen found.entry) }
+fn authorization(by: Speaker, found: Found<'_>) -> Result<Auth, AnswerFault>
+    ensures { result ≡ authorization_seen by (seen found.entry) }
+{
+    match by {
+        Speaker::Book => given_authorization(found),
+        Speaker::System => Ok(Auth::unread()),
+    }
+}
+
+fn given_authorization(found: Found<'_>) -> Result<Auth, AnswerFault>
+    ensures { result ≡ authorization_seen Book (seen found.entry) }
 {
     match found.one() {
         Some(text) => Auth::read(text).ok_or(AnswerFault::BadAuthorization),
@@ -335,21 +380,32 @@ fn prescription(values: &AnswerValues<'_>) -> Result<u64, AnswerFault>
     number(values.prescription, 12).ok_or(AnswerFault::BadClaim)
 }
 
-fn amounts(values: &AnswerValues<'_>) -> Result<Amounts, AnswerFault>
-    ensures { result ≡ money_seen (answer_seen values.now) }
+fn amounts(by: Speaker, values: &AnswerValues<'_>) -> Result<Amounts, AnswerFault>
+    ensures { result ≡ money_seen by (answer_seen values.now) }
 {
-    all_amounts(values).ok_or(AnswerFault::BadAmount)
+    all_amounts(by, values).ok_or(AnswerFault::BadAmount)
 }
 
-/// The four amounts, where they go together.
-fn all_amounts(values: &AnswerValues<'_>) -> Option<Amounts>
-    ensures { result ≡ all_money_seen (answer_seen values.now) }
+/// The four amounts.
+fn all_amounts(by: Speaker, values: &AnswerValues<'_>) -> Option<Amounts>
+    ensures { result ≡ all_money_seen by (answer_seen values.now) }
 {
     let cost = cents(values.cost)?;
-    let fee = cents(values.fee)?;
+    let fee = fee(by, values.fee)?;
     let copay = cents(values.copay)?;
     let total = cents(values.total)?;
-    Amounts::of_cents(cost, fee, copay, total)
+    Some(Amounts::of_cents(cost, fee, copay, total))
+}
+
+/// The fee that is paid (507-F7), which a payer's own system may leave out.
+fn fee(by: Speaker, found: Found<'_>) -> Option<u32>
+    ensures value { result ≡ fee_said by (seen found.entry) }
+    ensures range { IfSome result (λ n. n ≤ largest) }
+{
+    match by {
+        Speaker::Book => cents(found),
+        Speaker::System => cents_if_given(found),
+    }
 }
 
 /// A rejection, where the count is that of the codes.

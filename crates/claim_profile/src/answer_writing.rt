@@ -173,7 +173,7 @@ fn put_rejects(text: &mut Vec<u8>, rejects: &Rejects) -> Result<(), AllocError>
     text.push(b'0' + codes.len() as u8)?;
     for code in codes {
         text.extend_from_slice(b"\x1cFB")?;
-        text.extend_from_slice(&code.text())?;
+        text.extend_from_slice(code.text())?;
     }
     Ok(())
 }

@@ -2,6 +2,7 @@
 
 ghost use Rattle.std.specs.Prelude.{◌≡◌, ◌≤◌, ◌↔◌, length, replicate, IsSome, IfSome};
 ghost use Rattle.claim_profile.specs.Authorization.{IsAuthorization, largest_payer, largest_serial, authorization_text, authorization_of, authorization_with, padded_number};
+ghost use Rattle.claim_profile.specs.Ruling.{unread};
 
 use overpunch::read_number;
 use std::marker::Model;
@@ -32,6 +33,16 @@ impl Model for Auth {
 }
 
 impl Auth {
+    /// What stands for a number that is not looked at.
+    pub(crate) fn unread() -> Auth
+        ensures { result ≡ unread }
+    {
+        Auth {
+            payer: 1,
+            serial: 1,
+        }
+    }
+
     /// The authorization of a payer with a serial, None outside the ranges.
     pub fn new(payer: u16, serial: u64) -> Option<Auth>
         ensures variant { IsSome result ↔ IsAuthorization payer serial }

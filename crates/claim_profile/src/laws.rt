@@ -6,7 +6,8 @@ ghost use Rattle.claim_profile.specs.declared.ruling.Ruling.{Ruling};
 ghost use Rattle.claim_profile.specs.declared.ruling.HeaderStatus.{HeaderStatus};
 ghost use Rattle.claim_profile.specs.declared.ruling.HeaderStatus.TheVariants.{Rejected as RejectedStatus};
 ghost use Rattle.claim_profile.specs.Answer.{answer_text};
-ghost use Rattle.claim_profile.specs.Ruling.{answer_of};
+ghost use Rattle.claim_profile.specs.Ruling.{AnswerParts, answer_of, advice_of};
+ghost use Rattle.claim_profile.specs.Unnamed.{unnamed_parts};
 ghost use Rattle.claim_profile.specs.Readable.{readable_header, longest_request};
 ghost use Rattle.claim_profile.specs.Answering.{Answers, answered, unrouted, unrouted_text, IsCarried};
 
@@ -27,6 +28,11 @@ pub fn answer_laws()
     number_reads_back();
     amount_reads_back();
 }
+
+/// What is read of a book's answer is read of it as an advice too, but for its authorization numbers.
+pub fn advice_laws()
+    ensures { (bytes : List ℕ) (a : AnswerParts) → answer_of bytes ≡ Ok a → advice_of bytes ≡ Ok (unnamed_parts a) }
+{}
 
 /// The fixed rejection of a request that is routed nowhere, code 01 for each transaction, is such an answer.
 pub fn unrouted_laws()

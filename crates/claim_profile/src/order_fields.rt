@@ -5,14 +5,14 @@ ghost use Rattle.claim_profile.specs.Order.{day_of_service, claim_of};
 ghost use Rattle.claim_profile.specs.declared.order.Order.TheVariants as orders;
 ghost use Rattle.claim_profile.specs.OrderTally.{order_seen};
 ghost use Rattle.claim_profile.specs.Tally.{seen};
-ghost use Rattle.claim_profile.specs.OrderSeen.{claim_seen, prescription_seen, product_seen, fee_seen, fill_seen};
+ghost use Rattle.claim_profile.specs.OrderSeen.{claim_seen, prescription_seen, product_seen, fill_seen};
 
 use crate::found::Found;
 use crate::order::{Claim, Fill, Order, Reversal};
 use crate::order_values::OrderValues;
 use crate::reject::{Code, Rejects, first_five};
 use crate::texts::Text;
-use crate::values::{cents, fill_number, is_exactly, number, text};
+use crate::values::{cents, cents_if_given, fill_number, is_exactly, number, text};
 use d0_header::{RequestHeader, is_date};
 
 /// The fields of a claim that are valid, None where one is not.
@@ -52,7 +52,7 @@ impl ClaimFields {
             product: product(values),
             quantity: number(values.quantity, 10),
             cost: cents(values.cost),
-            fee: fee(values.fee),
+            fee: cents_if_given(values.fee),
         }
     }
 
@@ -90,7 +90,7 @@ pub fn claim_spelled(header: &RequestHeader, values: &OrderValues<'_>) -> Option
     let product = product(values)?;
     let quantity = number(values.quantity, 10)?;
     let cost = cents(values.cost)?;
-    let fee = fee(values.fee)?;
+    let fee = cents_if_given(values.fee)?;
     Some(Order::Claim(Claim {
         fill: Fill {
             bin: header.bin(),
@@ -185,16 +185,6 @@ fn product(values: &OrderValues<'_>) -> Option<Text<19>>
         text(values.product)
     } else {
         None
-    }
-}
-
-/// The dispensing fee submitted (412-DC), 0 where none is.
-fn fee(found: Found<'_>) -> Option<u32>
-    ensures { result ≡ fee_seen (seen found.entry) }
-{
-    match found {
-        Found::Nothing => Some(0),
-        Found::One(_) | Found::Several => cents(found),
     }
 }
 

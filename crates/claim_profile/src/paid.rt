@@ -1,14 +1,14 @@
 //! The four amounts of a paid claim.
 
-ghost use Rattle.std.specs.Prelude.{◌≡◌, ◌+◌, ◌≤◌, ◌↔◌, pos, IsSome, IfSome};
-ghost use Rattle.claim_profile.specs.Money.{GoTogether, IsMoney, largest, money_with};
+ghost use Rattle.std.specs.Prelude.{◌≡◌, ◌≤◌, ◌↔◌, pos, IsSome, IfSome};
+ghost use Rattle.claim_profile.specs.Money.{NoneNegative, IsMoney, largest};
 
 use overpunch::Amount;
 use std::marker::Model;
 
 /// What is paid for a claim, in cents: ingredient cost paid (506-F6), dispensing fee paid (507-F7),
-/// patient pay amount (505-F5) and total amount paid (509-F9). None is negative, and the total is
-/// cost and fee less the patient's part.
+/// patient pay amount (505-F5) and total amount paid (509-F9). None is negative. Of what a plan pays, the total is cost and
+/// fee less the patient's part; what a payer's own system pays has further parts, and its total is what it says.
 #[derive(Clone, Copy, PartialEq, Eq)]
 pub struct Amounts {
     cost: u32,
@@ -30,18 +30,15 @@ impl Model for Amounts {
 }
 
 impl Amounts {
-    /// The four amounts, None where one is negative or where they do not go together.
+    /// The four amounts, None where one is negative.
     pub fn new(cost: Amount, fee: Amount, copay: Amount, total: Amount) -> Option<Amounts>
-        ensures variant { IsSome result ↔ GoTogether cost fee copay total }
+        ensures variant { IsSome result ↔ NoneNegative cost fee copay total }
         ensures given { IfSome result (λ a. (pos a.cost ≡ cost) × (pos a.fee ≡ fee) × (pos a.copay ≡ copay)
             × (pos a.total ≡ total)) }
     {
         let (cost, fee) = (cost.cents(), fee.cents());
         let (copay, total) = (copay.cents(), total.cents());
         if cost < 0 || fee < 0 || copay < 0 || total < 0 {
-            return None;
-        }
-        if total + copay != cost + fee {
             return None;
         }
         Some(Amounts {
@@ -52,23 +49,20 @@ impl Amounts {
         })
     }
 
-    /// The four amounts in cents, None where they do not go together.
-    pub(crate) fn of_cents(cost: u32, fee: u32, copay: u32, total: u32) -> Option<Amounts>
+    /// The four amounts, in cents.
+    pub(crate) fn of_cents(cost: u32, fee: u32, copay: u32, total: u32) -> Amounts
         requires cost { cost ≤ largest }
         requires fee { fee ≤ largest }
         requires copay { copay ≤ largest }
         requires total { total ≤ largest }
-        ensures { result ≡ money_with cost fee copay total }
+        ensures { result ≡ record { cost = cost; fee = fee; copay = copay; total = total } }
     {
-        if total + copay != cost + fee {
-            return None;
-        }
-        Some(Amounts {
+        Amounts {
             cost,
             fee,
             copay,
             total,
-        })
+        }
     }
 
     /// The ingredient cost paid, in cents.
@@ -99,7 +93,6 @@ impl Amounts {
     pub fn total(self) -> u32
         ensures value { result ≡ self.total }
         ensures range { result ≤ largest }
-        ensures sum { result + self.copay ≡ self.cost + self.fee }
     {
         self.total
     }

@@ -1,11 +1,14 @@
 //! Reject codes.
 
 ghost use Rattle.std.specs.Prelude.{◌≡◌, ◌<◌, ◌≤◌, ◌↔◌, List, [], ◌∷◌, ◌++◌, length, IsSome, IfSome, SomeIff};
+ghost use Rattle.std.specs.List.{list_all};
+ghost use Rattle.claim_profile.specs.CodeTexts.{is_code_letter, has_code_length, is_code_text, other_code};
 ghost use Rattle.claim_profile.specs.Reject.{first_five_held, code_text};
 
 use std::marker::Model;
 
-/// A reject code (511-FB). "M/I" of the standard's wording is "missing or invalid".
+/// A reject code (511-FB): one of the twelve that the rules here give, or another, which a payer's own system has given. "M/I" of
+/// the standard's wording is "missing or invalid".
 #[derive(Clone, Copy, Debug, PartialEq, Eq, PartialOrd, Ord)]
 pub enum Code {
     /// 01, M/I BIN number: no processor is routed.
@@ -32,6 +35,64 @@ pub enum Code {
     DuplicateClaim,
     /// 87, reversal not processed.
     ReversalNotProcessed,
+    /// Another one, as 75 or 569.
+    Other(OtherCode),
+}
+
+/// A reject code that no rule here gives: two or three digits and capital letters.
+#[derive(Clone, Copy, Debug, PartialEq, Eq, PartialOrd, Ord)]
+pub struct OtherCode {
+    letters: [u8; 3],
+    count: u8,
+}
+
+impl Model for OtherCode {
+    ghost use Rattle.std.specs.Prelude.{◌≡◌, ◌-◌, ◌≤◌, ℕ, List, ◌++◌, length, take, drop};
+    ghost use Rattle.claim_profile.specs.CodeTexts.{no_letters};
+    ghost use Rattle.std.proofs.Common.{arith, ap, ◌∙◌, sym, take-append-drop, length-take-le};
+
+    ghost Value = { List ℕ };
+
+    ghost view = { λ c. take c.count c.letters };
+
+    ghost invariant = { λ c. (c.count ≤ 3) × (length c.letters ≡ 3)
+        × (drop c.count c.letters ≡ no_letters (take c.count c.letters)) };
+
+    ghost inverse = { λ v. record { letters = v ++ no_letters v; count = length v } };
+
+    ghost inverse_ok = { λ c h i. record {
+      letters = (ap (λ (rest : List ℕ). take c.count c.letters ++ rest) (sym h.2) ∙ take-append-drop c.count c.letters) i;
+      count = length-take-le c.count c.letters (omega (arith, h.0, h.1)) i;
+    } };
+}
+
+impl OtherCode {
+    /// The code that these bytes are, None where they are no code. Of none of the twelve it is asked.
+    fn read(text: &[u8]) -> Option<OtherCode>
+        ensures { result ≡ other_code text.now }
+    {
+        if !is_code_text(text) {
+            return None;
+        }
+        match text {
+            [first, second] => Some(OtherCode {
+                letters: [*first, *second, 0],
+                count: 2,
+            }),
+            [first, second, third] => Some(OtherCode {
+                letters: [*first, *second, *third],
+                count: 3,
+            }),
+            _ => None,
+        }
+    }
+
+    /// Its two or three bytes.
+    pub fn text(&self) -> &[u8]
+        ensures { result.now ≡ self.now }
+    {
+        &self.letters[..usize::from(self.count)]
+    }
 }
 
 /// At most five reject codes, in order.
@@ -176,32 +237,68 @@ pub fn first_five(conditions: &[(bool, Code)]) -> Option<Rejects>
     few.some()
 }
 
-impl Code {
-    ghost use Rattle.claim_profile.specs.Ruling.{code_of};
+/// Whether bytes are two or three digits and capital letters.
+fn is_code_text(text: &[u8]) -> bool
+    ensures { result ≡ is_code_text text.now }
+{
+    has_code_length(text) && are_code_letters(text)
+}
 
-    /// The two bytes of the code.
-    pub fn text(self) -> [u8; 2]
-        ensures { result ≡ code_text self }
+fn has_code_length(text: &[u8]) -> bool
+    ensures { result ≡ has_code_length text.now }
+{
+    text.len() == 2 || text.len() == 3
+}
+
+fn are_code_letters(text: &[u8]) -> bool
+    ensures { result ≡ list_all is_code_letter text.now }
+{
+    text.iter().all(|byte| is_code_letter(*byte))
+}
+
+fn is_code_letter(byte: u8) -> bool
+    ensures { result ≡ is_code_letter byte }
+{
+    byte.is_ascii_digit() || byte.is_ascii_uppercase()
+}
+
+impl Code {
+    ghost use Rattle.claim_profile.specs.Ruling.{code_of, known_code};
+
+    /// Its two or three bytes, as field 511-FB has them.
+    pub fn text(&self) -> &[u8]
+        ensures { result.now ≡ code_text self.now }
     {
         match self {
-            Code::Bin => *b"01",
-            Code::Cardholder => *b"07",
-            Code::DateOfService => *b"15",
-            Code::Prescription => *b"16",
-            Code::FillNumber => *b"17",
-            Code::Product => *b"21",
-            Code::IngredientCost => *b"23",
-            Code::Quantity => *b"E7",
-            Code::DispensingFee => *b"DC",
-            Code::NotCovered => *b"70",
-            Code::DuplicateClaim => *b"83",
-            Code::ReversalNotProcessed => *b"87",
+            Code::Bin => b"01",
+            Code::Cardholder => b"07",
+            Code::DateOfService => b"15",
+            Code::Prescription => b"16",
+            Code::FillNumber => b"17",
+            Code::Product => b"21",
+            Code::IngredientCost => b"23",
+            Code::Quantity => b"E7",
+            Code::DispensingFee => b"DC",
+            Code::NotCovered => b"70",
+            Code::DuplicateClaim => b"83",
+            Code::ReversalNotProcessed => b"87",
+            Code::Other(other) => other.text(),
         }
     }
 
-    /// The code that these bytes are, None where they are none of the twelve.
+    /// The code that these bytes are: one of the twelve, or another of two or three digits and capital letters; else None.
     pub fn read(text: &[u8]) -> Option<Code>
         ensures { result ≡ code_of text.now }
+    {
+        match Code::known(text) {
+            Some(code) => Some(code),
+            None => OtherCode::read(text).map(Code::Other),
+        }
+    }
+
+    /// The one of the twelve that these bytes are.
+    fn known(text: &[u8]) -> Option<Code>
+        ensures { result ≡ known_code text.now }
     {
         match text {
             b"01" => Some(Code::Bin),

@@ -15,22 +15,12 @@ impl Display for Auth {
 }
 
 impl Display for Code {
-    /// Its two bytes, as field 511-FB has them.
+    /// Its bytes, as field 511-FB has them.
     fn fmt<W: fmt::Write>(&self, f: &mut Formatter<W>) -> fmt::Result {
-        f.write_str(match self {
-            Code::Bin => "01",
-            Code::Cardholder => "07",
-            Code::DateOfService => "15",
-            Code::Prescription => "16",
-            Code::FillNumber => "17",
-            Code::Product => "21",
-            Code::IngredientCost => "23",
-            Code::Quantity => "E7",
-            Code::DispensingFee => "DC",
-            Code::NotCovered => "70",
-            Code::DuplicateClaim => "83",
-            Code::ReversalNotProcessed => "87",
-        })
+        for letter in self.text() {
+            f.write_char(char::from(*letter))?;
+        }
+        Ok(())
     }
 }
 

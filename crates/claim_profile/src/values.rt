@@ -5,6 +5,7 @@ ghost use Rattle.std.specs.Result.{result_ok};
 ghost use Rattle.overpunch.specs.Amount.{amount_of};
 ghost use Rattle.claim_profile.specs.Tally.{seen, the_one};
 ghost use Rattle.claim_profile.specs.Order.{text_up_to, number_up_to, amount_in_cents, the_text};
+ghost use Rattle.claim_profile.specs.OrderSeen.{optional_seen};
 ghost use Rattle.claim_profile.specs.Money.{largest};
 
 use crate::found::Found;
@@ -49,6 +50,17 @@ pub fn cents(found: Found<'_>) -> Option<u32>
     ensures range { IfSome result (λ n. n ≤ largest) }
 {
     u32::try_from(amount(found)?.cents()).ok()
+}
+
+/// The one value as an amount that is not negative, in cents; 0 where there is none.
+pub fn cents_if_given(found: Found<'_>) -> Option<u32>
+    ensures value { result ≡ optional_seen 0 amount_in_cents (seen found.entry) }
+    ensures range { IfSome result (λ n. n ≤ largest) }
+{
+    match found {
+        Found::Nothing => Some(0),
+        Found::One(_) | Found::Several => cents(found),
+    }
 }
 
 /// Whether there is one value, and it is this one.

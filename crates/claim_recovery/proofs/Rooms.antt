@@ -146,7 +146,11 @@ advice_there ctx request h laws reads k c e =
     let within = (numbered_within (ctx.orders request) (suc k) (Ok (Bills c)) e).1 in
     let groups : length (ctx.orders request) ≡ h.count = laws.groups request h reads in
     let here : k < h.count = omega (arith, within, groups) in
-    subst (λ (rs : List Ruling). IsSome (verdict_in c.fill.prescription (slice_get rs k))) (sym (ap rulings_in s.reads ∙ s.rulings_are)) (rejects_each (BadBin ∷ []) h.count c.fill.prescription k here)
+    let said = laws.advised (rejection ctx h) s.answer s.reads in
+    let each : IsSome (verdict_in c.fill.prescription (slice_get s.answer.rulings k)) =
+    subst (λ (rs : List Ruling). IsSome (verdict_in c.fill.prescription (slice_get rs k))) (sym s.rulings_are) (rejects_each (BadBin ∷ []) h.count c.fill.prescription k here) in
+    subst (λ (rs : List Ruling). IsSome (verdict_in c.fill.prescription (slice_get rs k))) (sym (ap rulings_in said.1))
+    (subst (λ (v : Option Verdict). IsSome v) (sym (said.2 (suc k) c.fill.prescription)) each)
 
 -- how a request is handed to a payer so that there is a verdict on each claim: one that does not ask needs none, one that asks takes some advice
 record Enough (ctx : Context) (b : Book) (id : TxnId) (request : List ℕ) : Type 0 where

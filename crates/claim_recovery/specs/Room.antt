@@ -1,5 +1,5 @@
 -- What a book must have to answer a new request, and what it means to be never answered.
-use Rattle.std.specs.Prelude.{◌≡◌, ℕ, ◌+◌, ◌<◌, ◌≤◌, false, List, [], ◌∷◌, length, slice_get, ⊤, Option, Some, None, IsSome, Result, Ok}
+use Rattle.std.specs.Prelude.{◌≡◌, ℕ, ◌+◌, ◌<◌, ◌≤◌, false, List, [], ◌∷◌, length, slice_get, ⊤, Some, None, IsSome, Result, Ok}
 use Rattle.std.specs.List.{AllByRecursion}
 use Rattle.claim_model.specs.Words.{TxnId, RequestHeader, Claim, Order, Bills, Code, NotCovered, Ruling, Rejected, Plan, Amounts, Change}
 use Rattle.claim_model.specs.Context.{Context}

@@ -8,7 +8,7 @@ use thiserror::Error;
 #[derive(Debug, Drop, Error)]
 pub(crate) enum Finding {
     /// The words are wrong.
-    #[error("usage: claimaudit [--alone] [--csv payments|entries|rows|packets|open|counted | --json | --schedule] SETTINGS LOG..., --calls SETTINGS LOG..., or a report on tables (-h)")]
+    #[error("usage: claimaudit [--alone | --days] [--csv payments|entries|rows|packets|open|counted | --json | --schedule] SETTINGS LOG..., --calls SETTINGS LOG..., or a report on tables (-h)")]
     Usage,
     /// The settings are refused: what is wrong in them.
     #[error("settings refused: {0}")]

@@ -48,6 +48,12 @@ const WORDS: &[Word] = &[
         help: "judges each log by itself, and nothing of other nodes",
     },
     Word {
+        name: "days",
+        takes: Takes::Flag,
+        help: "judges logs of pharmacies and payers as those of some days, from what their closed logs left on: each packet that is taken \
+is what journals and books then say",
+    },
+    Word {
         name: "calls",
         takes: Takes::Flag,
         help: "writes the records of each log as CSV, with their times and references, and judges nothing",
@@ -56,7 +62,7 @@ const WORDS: &[Word] = &[
         name: "csv",
         takes: Takes::Text("TABLE"),
         help: "writes a table of what the run left as CSV: payments, entries, rows, packets, counted, prices or terms; alone, \
-payments, entries, rows, open, counted, prices or terms",
+payments, entries, rows, open, counted, prices or terms; of days the first five of these",
     },
     Word {
         name: "json",

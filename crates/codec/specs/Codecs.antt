@@ -1,5 +1,5 @@
 -- Formats: how values of a type are spelled, and what stands at the front of bytes, said once.
-use Rattle.std.specs.Prelude.{◌≡◌, ⊤, ℕ, zero, suc, ◌<◌, ◌^◌, ◌==◌, cond, List, [], ◌∷◌, ◌++◌, length, Option, Some, None}
+use Rattle.std.specs.Prelude.{◌≡◌, ⊤, ℕ, zero, suc, ◌<◌, ◌≤◌, ◌^◌, ◌==◌, cond, nat_le, List, [], ◌∷◌, ◌++◌, length, Option, Some, None}
 use Rattle.std.specs.List.{AllByRecursion, flat_map}
 use Rattle.std.specs.Int.{w16, w32, w64, to_be_bytes}
 use Rattle.codec.specs.Options.{◌>>=◌}
@@ -24,6 +24,14 @@ u32 = record { text = to_be_bytes w32; at = u32_at; Fits = λ n. n < 2 ^ 32 }
 
 abbrev pub u64 : Codec ℕ
 u64 = record { text = to_be_bytes w64; at = u64_at; Fits = λ n. n < 2 ^ 64 }
+
+-- a number of at most this
+abbrev pub at_most : ℕ → Codec ℕ → Codec ℕ
+at_most most c = record {
+  text = c.text;
+  at = λ bytes. c.at bytes >>= λ n. cond (nat_le n.0 most) (Some n) None;
+  Fits = λ n. (n ≤ most) × c.Fits n;
+}
 
 -- ---- bytes: this many, those after their length, and those after their length of eight bytes
 

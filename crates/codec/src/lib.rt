@@ -7,5 +7,5 @@ mod putting;
 mod taking;
 
 pub use laws::fields;
-pub use putting::{put_text, put_u8, put_u32, put_u64};
+pub use putting::{put_text, put_u8, put_u16, put_u32, put_u64};
 pub use taking::{take_bytes, take_text, take_u8, take_u16, take_u32, take_u64};

@@ -1,7 +1,7 @@
 //! Numbers and texts, put after what is written already.
 
 ghost use Rattle.std.specs.Prelude.{◌≡◌, ◌++◌, OnOk};
-ghost use Rattle.codec.specs.Codecs.{u8, u32, u64, text};
+ghost use Rattle.codec.specs.Codecs.{u8, u16, u32, u64, text};
 
 use std::alloc::AllocError;
 
@@ -11,6 +11,13 @@ pub fn put_u8(out: &mut Vec<u8>, number: u8) -> Result<(), AllocError>
 {
     out.push(number)?;
     Ok(())
+}
+
+/// Puts a number of two bytes.
+pub fn put_u16(out: &mut Vec<u8>, number: u16) -> Result<(), AllocError>
+    ensures { OnOk result (out.new.items ≡ out.old.items ++ u16.text number) }
+{
+    out.extend_from_slice(&number.to_be_bytes())
 }
 
 /// Puts a number of four bytes.

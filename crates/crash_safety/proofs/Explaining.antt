@@ -16,6 +16,7 @@ use Rattle.claim_model.specs.Node.{Node, Pharmacy, Switch, Payer, Power, Up, AtR
 use Rattle.claim_model.specs.World.{World, Packet, Event, Submission, Ticking, Delivery, Stopping, Starting, PlanChange, Adjudication, packet_from}
 use Rattle.claim_model.specs.Settings.{WorldSettings, Accepts, opening}
 use Rattle.claim_model.specs.Held.{journal_in, book_in}
+use Rattle.claim_model.specs.Carried.{Carries}
 use Rattle.claim_model.specs.Nodes.{AnyNode, OfPharmacy, OfSwitch, OfPayer, as_node, node_step, node_at, same_node, taking, adjudicating, asked}
 use Rattle.claim_model.specs.Logs.{Logged, node_after, Makes}
 use Rattle.claim_model.specs.Promises.{Reached}
@@ -23,7 +24,7 @@ use Rattle.claim_model.proofs.Lists.{all_at, all_map, all_weaker, find_all, numb
 use Rattle.claim_model.proofs.Options.{map_some, same_some, same_ok}
 use Rattle.claim_model.proofs.Names.{told_apart, same_self}
 use Rattle.claim_model.proofs.Walking.{all_right}
-use Rattle.claim_model.proofs.Sound.{SoundRow, SoundBook, Carries, SoundPacket}
+use Rattle.claim_model.proofs.Sound.{SoundRow, SoundBook, SoundPacket}
 use Rattle.claim_model.proofs.Decided.{rejection_spells, row_spells}
 use Rattle.claim_model.proofs.Journals.{heard_settles}
 use Rattle.claim_model.proofs.PharmacyStep.{carries_reads, after_hearing_done, done_same}

@@ -7,6 +7,7 @@ use Rattle.claim_model.specs.Words.{TxnId, Envelope}
 use Rattle.claim_model.specs.Context.{Context}
 use Rattle.claim_model.specs.Readable.{readable, payer_for, rejection, is_request, answer_envelope}
 use Rattle.claim_model.specs.Held.{decided, held}
+use Rattle.claim_model.specs.Carried.{Carries, IsVouched}
 use Rattle.claim_model.specs.Local.{Follows}
 use Rattle.claim_model.specs.Laws.{Laws}
 use Rattle.claim_model.specs.Numbered.{numbered}
@@ -23,9 +24,9 @@ use Rattle.claim_model.proofs.Ends.{Unchanged, One_call, ended}
 use Rattle.claim_model.proofs.Serving.{packets_grow}
 use Rattle.claim_model.proofs.Replaying.{run_unchanged}
 use Rattle.claim_model.proofs.GoingOn.{run_append}
-use Rattle.claim_model.proofs.Sound.{Carries, SoundPacket, Sound}
+use Rattle.claim_model.proofs.Sound.{SoundPacket, Sound}
 use Rattle.claim_model.proofs.Decided.{decided_unrouted}
-use Rattle.claim_model.proofs.PharmacyStep.{SoundCall, carries_reads}
+use Rattle.claim_model.proofs.PharmacyStep.{carries_reads}
 use Rattle.claim_model.proofs.SwitchStep.{request_says, carries_answer}
 use Rattle.claim_model.proofs.Runs.{run_sound, reached_sound}
 use Rattle.claim_model.proofs.Held.{one_answer}
@@ -649,7 +650,7 @@ heard_carries ctx s v packets n m bytes laws x f (Heard_rejection request e h a 
     let d = decided_unrouted ctx v c.envelope.id c.envelope.payload h says reads_c (ap (λ (y : Envelope). payer_for ctx y.id h) same ∙ route) in
     subst (Carries ctx v) (ap (λ (y : Envelope). ctx.envelope (answer_envelope y.id (rejection ctx h))) same ∙ sym spelled) (carries_answer ctx s v request c (rejection ctx h) laws x d)
 
-sound_explained : (ctx : Context) (s : WorldSettings) (v : World) (packets : List Packet) (n : ℕ) (call : Call) → Laws ctx → Sound ctx s v → ((p : Packet) → IsAmong packets p → IsAmong v.packets p) → IsExplained ctx packets (Pharmacy n) call → SoundCall ctx v call
+sound_explained : (ctx : Context) (s : WorldSettings) (v : World) (packets : List Packet) (n : ℕ) (call : Call) → Laws ctx → Sound ctx s v → ((p : Packet) → IsAmong packets p → IsAmong v.packets p) → IsExplained ctx packets (Pharmacy n) call → IsVouched ctx v call
 sound_explained ctx s v packets n (Take from bytes) laws x f e = heard_carries ctx s v packets n e.0 bytes laws x f e.2
 sound_explained ctx s v packets n (Submit text) laws x f e = tt
 sound_explained ctx s v packets n Tick laws x f e = tt
@@ -678,7 +679,7 @@ told_whatever = λ ctx s all more id a w laws accepts told b.
     let there = node_is ctx s n m.turns m.first node m.are apart (m.now.logs node apart) in
     let among : (p : Packet) → IsAmong (sent_among m.turns) p → IsAmong v.packets p = λ p x. outside_sent ctx (opening s) m.first p (subst (λ (ts : List Turn). IsAmong (sent_among ts) p) (sym m.are) x) in
     let well = m.now.each node apart in
-    let calls = all_weaker (λ (l : Logged). IsExplained ctx (sent_among m.turns) node l.call) (λ (l : Logged). SoundCall ctx v l.call) (λ l x. sound_explained ctx s v (sent_among m.turns) id.pharmacy l.call laws sound among x) (n.at node).unsynced well.explained in
+    let calls = all_weaker (λ (l : Logged). IsExplained ctx (sent_among m.turns) node l.call) (λ (l : Logged). IsVouched ctx v l.call) (λ l x. sound_explained ctx s v (sent_among m.turns) id.pharmacy l.call laws sound among x) (n.at node).unsynced well.explained in
     let d = told_decided ctx s v n id a laws sound told there calls well.memory in
     let later : decided ctx q id ≡ Some a = subst (λ (x : World). decided ctx x id ≡ Some a) (sym (run_append ctx (opening s) m.first m.rest)) ((run_sound ctx s v m.rest laws accepts sound).later.decides id a d) in
     let final = final_at ctx s q id a laws (reached_sound ctx s q (reached ctx s (m.first ++ m.rest) laws accepts)) later in

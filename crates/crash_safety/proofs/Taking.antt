@@ -11,6 +11,7 @@ use Rattle.claim_model.specs.Nodes.{same_node}
 use Rattle.claim_model.specs.Logs.{Logged}
 use Rattle.claim_model.proofs.Lists.{all_at, all_append, all_weaker}
 use Rattle.claim_model.proofs.Names.{told_apart, same_self}
+use Rattle.claim_model.proofs.Walking.{same_first, same_rest, nothing_left}
 use Rattle.crash_safety.specs.Network.{Move}
 use Rattle.crash_safety.specs.Runs.{IsAmong, on_disks, in_files}
 use Rattle.crash_safety.specs.Diskless.{light, HasRunHere}
@@ -75,17 +76,8 @@ record Here (done rest : List Turn) (left : List Logged) (node : Node) : Type 0 
   is : log_among rest node ≡ ahead ++ left
   sent : AllByRecursion (IsSent (sent_among done) node) ahead
 
-same_first : (l d : Logged) (log rest : List Logged) → l ∷ log ≡ d ∷ rest → l ≡ d
-same_first l d log rest e = cc
-
-same_rest : (l d : Logged) (log rest : List Logged) → l ∷ log ≡ d ∷ rest → log ≡ rest
-same_rest l d log rest e = cc
-
-nothing_left : (ahead left : List Logged) → [] ≡ ahead ++ left → left ≡ []
-nothing_left [] left e = sym e
-nothing_left (d ∷ ahead) left e = absurd cc
-
-own_first : (t : Turn) (rest : List Turn) → log_among (t ∷ rest) t.node ≡ t.logged ∷ log_among rest t.node
+-- a node's first turn is its own
+pub own_first : (t : Turn) (rest : List Turn) → log_among (t ∷ rest) t.node ≡ t.logged ∷ log_among rest t.node
 own_first t rest = ap (λ (b : Bool). cond b (t.logged ∷ []) [] ++ log_among rest t.node) (same_self t.node)
 
 module _ (ctx : Context) (done turns : List Turn) (left : Node → List Logged) (whole : (node : Node) → log_among turns node ≡ log_among done node ++ left node) where

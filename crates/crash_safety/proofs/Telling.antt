@@ -16,16 +16,17 @@ use Rattle.claim_model.specs.Node.{Node, Pharmacy, Power, Up, AtRest, Sent, Call
 use Rattle.claim_model.specs.World.{World, Packet, Event, Submission, Ticking, Delivery, Stopping, Starting, PlanChange, Adjudication, run}
 use Rattle.claim_model.specs.Settings.{WorldSettings, Accepts, opening}
 use Rattle.claim_model.specs.Held.{journal_in, book_at, asked as submitted_under, row_at, row_answer, decided_by, decided_for, decided, held}
+use Rattle.claim_model.specs.Carried.{Carries, IsVouched}
 use Rattle.claim_model.specs.Nodes.{AnyNode, OfPharmacy, OfSwitch, OfPayer, as_node, node_step, node_at, Asked, taking, adjudicating, asked}
 use Rattle.claim_model.specs.Logs.{Logged, node_after, replay}
 use Rattle.claim_model.specs.Promises.{Reached}
 use Rattle.claim_model.proofs.Lists.{all_weaker, numbered_more, numbered_put, numbered_put_other, all_at}
 use Rattle.claim_model.proofs.Options.{map_some, then_some, same_some}
 use Rattle.claim_model.proofs.Tests.{bytes_self, payer_self}
-use Rattle.claim_model.proofs.Sound.{id_at, Carries, SoundPacket, Sound}
+use Rattle.claim_model.proofs.Sound.{id_at, SoundPacket, Sound}
 use Rattle.claim_model.proofs.Decided.{Origin, From, Row_of, Fixed as Rejected_for_good, row_there, origin, decided_unrouted, decided_routed, rejection_spells, row_spells}
 use Rattle.claim_model.proofs.Journals.{entry_added, entry_settled, submitted_enters, ticked_same, started_same, heard_settles}
-use Rattle.claim_model.proofs.PharmacyStep.{SoundCall, carries_reads}
+use Rattle.claim_model.proofs.PharmacyStep.{carries_reads}
 use Rattle.claim_model.proofs.SwitchStep.{response_says}
 use Rattle.claim_model.proofs.PayerStep.{Rows, Known, New, Ruled_on, answered_ruled, new_row_written}
 use Rattle.claim_model.proofs.Held.{held_decided, book_sound}
@@ -159,7 +160,7 @@ takes_still ctx s v n j bytes c laws d =
     subst (λ (o : Result Envelope EnvelopeFault). DecidesNode ctx v n (node_after (OfPharmacy (Up j)) (as_node OfPharmacy (pharmacy_takes ctx j o)))) (sym (carries_reads ctx v bytes laws c))
     (heard_still ctx v n j c.envelope (heard ctx j c.envelope) d (λ e. response_says ctx v bytes c e) refl)
 
-call_still : (ctx : Context) (s : WorldSettings) (v : World) (n : ℕ) (x : Power Journal JournalAtRest) (call : Call) → Laws ctx → Decides ctx v n (journal_in x) → SoundCall ctx v call
+call_still : (ctx : Context) (s : WorldSettings) (v : World) (n : ℕ) (x : Power Journal JournalAtRest) (call : Call) → Laws ctx → Decides ctx v n (journal_in x) → IsVouched ctx v call
     → DecidesNode ctx v n (node_after (OfPharmacy x) (node_step ctx (OfPharmacy x) call))
 call_still ctx s v n (Up j) (Submit text) laws d c = submitted_still ctx v n j text (submitted ctx j text) d refl
 call_still ctx s v n (Up j) Tick laws d c = same_journal ctx v n (stopped j) (stopped (ticked j)) (ticked_same j) d
@@ -176,19 +177,19 @@ call_still ctx s v n (AtRest j) Stop laws d c = d
 call_still ctx s v n (AtRest j) (Reprice change) laws d c = d
 call_still ctx s v n (AtRest j) (Adjudicate from bytes advice) laws d c = d
 
-node_still : (ctx : Context) (s : WorldSettings) (v : World) (n : ℕ) (node : AnyNode) (call : Call) → Laws ctx → DecidesNode ctx v n node → SoundCall ctx v call → DecidesNode ctx v n (node_after node (node_step ctx node call))
+node_still : (ctx : Context) (s : WorldSettings) (v : World) (n : ℕ) (node : AnyNode) (call : Call) → Laws ctx → DecidesNode ctx v n node → IsVouched ctx v call → DecidesNode ctx v n (node_after node (node_step ctx node call))
 node_still ctx s v n (OfPharmacy x) call laws d c = call_still ctx s v n x call laws d c
 node_still ctx s v n (OfSwitch x) call laws d c = absurd d
 node_still ctx s v n (OfPayer x) call laws d c = absurd d
 
 abbrev pub SoundCalls : Context → World → List Logged → Type 0
-SoundCalls ctx v log = AllByRecursion (λ (l : Logged). SoundCall ctx v l.call) log
+SoundCalls ctx v log = AllByRecursion (λ (l : Logged). IsVouched ctx v l.call) log
 
 replay_still : (ctx : Context) (s : WorldSettings) (v : World) (n : ℕ) (node : AnyNode) (log : List Logged) → Laws ctx → DecidesNode ctx v n node → SoundCalls ctx v log → DecidesNode ctx v n (replay ctx node log)
 replay_still ctx s v n node [] laws d c = d
 replay_still ctx s v n node (l ∷ log) laws d c = replay_still ctx s v n (node_after node (node_step ctx node l.call)) log laws (node_still ctx s v n node l.call laws d c.0) c.1
 
-sound_coming : (ctx : Context) (s : WorldSettings) (v : World) (node : Node) (call : Call) → Sound ctx s v → Comes v.packets node call → SoundCall ctx v call
+sound_coming : (ctx : Context) (s : WorldSettings) (v : World) (node : Node) (call : Call) → Sound ctx s v → Comes v.packets node call → IsVouched ctx v call
 sound_coming ctx s v node (Take from bytes) x c = carries_coming ctx s v node from bytes x c
 sound_coming ctx s v node (Submit text) x c = tt
 sound_coming ctx s v node Tick x c = tt
@@ -227,7 +228,7 @@ told_was_decided ctx s n events id a laws accepts i t =
     let v = run ctx (opening s) events in
     let sound = reached_sound ctx s v (reached ctx s events laws accepts) in
     told_decided ctx s v n id a laws sound t (nodes_of_run ctx s (on_disks n) n.wire events i.has node)
-    (all_weaker (λ (l : Logged). Comes v.packets node l.call) (λ (l : Logged). SoundCall ctx v l.call) (λ l c. sound_coming ctx s v node l.call sound c) (n.at node).unsynced (i.each node).comes) (i.each node).memory
+    (all_weaker (λ (l : Logged). Comes v.packets node l.call) (λ (l : Logged). IsVouched ctx v l.call) (λ l c. sound_coming ctx s v node l.call sound c) (n.at node).unsynced (i.each node).comes) (i.each node).memory
 
 -- ---- and stays so
 

@@ -18,6 +18,7 @@ use Rattle.claim_model.specs.Logs.{Logged, log_in, Makes}
 use Rattle.claim_model.specs.Local.{Follows}
 use Rattle.claim_model.specs.Promises.{Reached}
 use Rattle.claim_model.specs.Limits.{most_entries}
+use Rattle.claim_model.specs.Carried.{Carries}
 use Rattle.claim_model.proofs.Given.{pharmacy_given}
 use Rattle.claim_model.proofs.Lists.{numbered_within, numbered_map, all_at, all_from, all_append, all_weaker, all_cond, all_drop, all_map}
 use Rattle.claim_model.proofs.Options.{map_some, same_some, same_ok}
@@ -25,7 +26,7 @@ use Rattle.claim_model.proofs.Tests.{id_same, readable_parts}
 use Rattle.claim_model.proofs.Names.{told_apart}
 use Rattle.claim_model.proofs.Ends.{Unchanged, One_call, ended, log_unchanged, log_own, log_other}
 use Rattle.claim_model.proofs.Replaying.{replays, absent_stays, run_unchanged}
-use Rattle.claim_model.proofs.Sound.{id_at, Carries, SoundPacket}
+use Rattle.claim_model.proofs.Sound.{id_at, SoundPacket}
 use Rattle.claim_model.proofs.Journals.{Asks, submitted_enters, submitted_is, numbered_middle, due_asks}
 use Rattle.claim_model.proofs.PharmacyStep.{carries_reads, after_submit_done, after_hearing_done, done_same}
 use Rattle.claim_model.proofs.SwitchStep.{slot_found}

@@ -44,6 +44,7 @@ small route = record {
   reprice = λ plan change. Ok plan;
   answer = λ h status rulings. letter status;
   read_answer = λ bytes. Some (record { header = small_response; rulings = [] });
+  read_advice = λ bytes. Some (record { header = small_response; rulings = [] });
   envelope = λ e. kind_number e.kind ∷ e.id.pharmacy ∷ e.id.number ∷ e.payload;
   read_envelope = λ bytes. Ok (small_envelope bytes);
 }

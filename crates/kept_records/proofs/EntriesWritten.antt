@@ -1,30 +1,15 @@
 -- The text of entries, an entry at a time.
-use Rattle.std.proofs.Common.{◌≡◌, ℕ, zero, suc, ◌+◌, List, [], ◌∷◌, ◌++◌, length, take, slice_get, Some, None, ◌<◌, ◌≤◌, refl, sym, ◌∙◌, ap, arith, append_assoc, append-nil, add-zero, add-one}
-use Rattle.std.proofs.lemmas.Option.{same_Some}
-use Rattle.std.proofs.lemmas.List.{take_all}
+use Rattle.std.proofs.Common.{◌≡◌, ℕ, zero, suc, ◌+◌, List, [], ◌∷◌, ◌++◌, length, drop, slice_get, Some, None, ◌<◌, ◌≤◌, sym, ◌∙◌, ap, arith, append_assoc, append-nil, add-one}
+use Rattle.std.proofs.lemmas.List.{at_drop_more, drop_all}
+use Rattle.std.proofs.lemmas.Option.{slice_get_within, get_or_from_slice_get}
 use Rattle.claim_model.specs.Numbered.{numbered}
-use Rattle.claim_model.specs.Journal.{Kept}
-use Rattle.kept_records.specs.Entries.{entry_text, entries_text}
-
--- one entry more
-pub entries_text-take : (number place : ℕ) (entries : List Kept) (kept : Kept) → slice_get entries place ≡ Some kept
-    → entries_text number (take (place + 1) entries) ≡ entries_text number (take place entries) ++ entry_text (number + place) kept
-unfolding entries_text
-entries_text-take number place [] kept e = cc
-entries_text-take number zero (first ∷ entries) kept e =
-    let same : first ≡ kept = same_Some first kept e in
-    rw (same, append-nil (entry_text number kept), add-zero number) refl
-entries_text-take number (suc place) (first ∷ entries) kept e =
-    let longer : take (suc place + 1) (first ∷ entries) ≡ first ∷ take (place + 1) entries = simp add-one in
-    let others = entries_text-take (number + 1) place entries kept e in
-    let same : number + 1 + place ≡ number + suc place = omega arith in
-    ap (entries_text number) longer
-    ∙ ap (λ t. entry_text number first ++ t) others
-    ∙ sym (append_assoc (entry_text number first) (entries_text (number + 1) (take place entries)) (entry_text (number + 1 + place) kept))
-    ∙ ap (λ m. (entry_text number first ++ entries_text (number + 1) (take place entries)) ++ entry_text m kept) same
+use Rattle.claim_model.specs.Journal.{JournalAtRest, Kept}
+use Rattle.kept_records.specs.Entries.{entry_codec, entries_text}
+use Rattle.kept_records.specs.Journals.{IsMade, empty_journal}
+use Rattle.kept_records.proofs.Made.{IsShort, added_all_short}
 
 -- the number of an entry is one more than its place
-pub at_place : (entries : List Kept) (place : ℕ) (kept : Kept) → numbered entries (place + 1) ≡ Some kept → slice_get entries place ≡ Some kept
+at_place : (entries : List Kept) (place : ℕ) (kept : Kept) → numbered entries (place + 1) ≡ Some kept → slice_get entries place ≡ Some kept
 at_place entries place kept e = rw add-one at e
 
 -- each place below the length has an entry
@@ -36,23 +21,21 @@ some_at_place entries place h e = past entries place (rw add-one at e) h
     past (first ∷ entries) zero e h = cc
     past (first ∷ entries) (suc place) e h = past entries place e (omega arith)
 
--- the entry at a place is put after those before it
-pub put_one : (old text longer : List ℕ) (place : ℕ) (entries : List Kept) (kept : Kept) → numbered entries (place + 1) ≡ Some kept → text ≡ old ++ entries_text 1 (take place entries) → longer ≡ text ++ entry_text (place + 1) kept
-    → longer ≡ old ++ entries_text 1 (take (place + 1) entries)
-put_one old text longer place entries kept at before step =
-    let same : place + 1 ≡ 1 + place = omega arith in
-    let added = entries_text-take 1 place entries kept (at_place entries place kept at) in
-    step
-    ∙ ap (λ t. t ++ entry_text (place + 1) kept) before
-    ∙ append_assoc old (entries_text 1 (take place entries)) (entry_text (place + 1) kept)
-    ∙ ap (λ n. old ++ (entries_text 1 (take place entries) ++ entry_text n kept)) same
-    ∙ ap (λ t. old ++ t) (sym added)
+-- the entries of a journal that can be made are short
+pub short_at_place : (j : JournalAtRest) → IsMade j → (place : ℕ) (kept : Kept) → numbered j.entries (place + 1) ≡ Some kept → IsShort kept
+short_at_place j made place kept e = added_all_short (empty_journal j.number j.settings) j j.entries made place kept (at_place j.entries place kept e)
 
--- no entry is put yet
-pub put_none : (old : List ℕ) → old ≡ old ++ entries_text 1 []
+-- an entry is put, and those after it are left
+pub put_one : (text longer all : List ℕ) (place : ℕ) (entries : List Kept) (kept : Kept) → numbered entries (place + 1) ≡ Some kept → text ++ entries_text (place + 1) (drop place entries) ≡ all → longer ≡ text ++ entry_codec.text (place + 1, kept)
+    → longer ++ entries_text (place + 1 + 1) (drop (place + 1) entries) ≡ all
 unfolding entries_text
-put_none old = sym (append-nil old)
+put_one text longer all place entries kept e before step =
+    let at = at_place entries place kept e in
+    let left : drop place entries ≡ kept ∷ drop (place + 1) entries = at_drop_more (λ (es : List Kept). es) entries place kept (slice_get_within entries place kept at) ∙ ap (λ (k : Kept). k ∷ drop (place + 1) entries) (get_or_from_slice_get entries place kept kept at) in
+    let others : List ℕ = entries_text (place + 1 + 1) (drop (place + 1) entries) in
+    ap (λ t. t ++ others) step ∙ append_assoc text (entry_codec.text (place + 1, kept)) others ∙ ap (λ (es : List Kept). text ++ entries_text (place + 1) es) (sym left) ∙ before
 
--- all entries are put
-pub put_all : (old text : List ℕ) (place : ℕ) (entries : List Kept) → length entries ≤ place → text ≡ old ++ entries_text 1 (take place entries) → text ≡ old ++ entries_text 1 entries
-put_all old text place entries h e = rw take_all at e
+-- none is left
+pub put_all : (text all : List ℕ) (place : ℕ) (entries : List Kept) → length entries ≤ place → text ++ entries_text (place + 1) (drop place entries) ≡ all → text ≡ all
+unfolding entries_text
+put_all text all place entries h before = sym (append-nil text) ∙ ap (λ (es : List Kept). text ++ entries_text (place + 1) es) (sym (drop_all place entries h)) ∙ before

@@ -1,11 +1,11 @@
 -- What holds of the entries of a journal that is made entry by entry.
 use Rattle.std.proofs.Common.{◌≡◌, ℕ, zero, suc, ◌+◌, ◌≤◌, ◌&&◌, Bool, true, false, cond, List, [], ◌∷◌, ◌++◌, length, slice_get, nat_le, nat_lt, Option, Some, None, option_and_then, refl, subst, sym, ◌∙◌, ap, arith, append-nil, append_assoc, length-append}
 use Rattle.std.specs.Option.{ForSome}
-use Rattle.std.proofs.lemmas.Bool.{and_parts}
-use Rattle.std.proofs.lemmas.Bool.Decides.{nat_tests}
+use Rattle.std.proofs.lemmas.Bool.{and_parts, leb-true}
 use Rattle.std.proofs.lemmas.Option.{same_Some}
 use Rattle.d0_segments.specs.Framing.{request_kind, transmission_of}
 use Rattle.claim_profile.specs.Readable.{if_carried, framed_header, readable_header}
+use Rattle.claim_model.specs.Words.{RequestHeader}
 use Rattle.claim_model.specs.Journal.{PharmacySettings, Journal, JournalAtRest, Kept, kept_entry, stopped}
 use Rattle.std.proofs.lemmas.List.{length-map}
 use Rattle.pharmacy_journal.specs.Reading.{is_own_header, is_own_request, settles_with}
@@ -17,23 +17,25 @@ pub record IsShort (kept : Kept) : Type 0 where
   pub answer : ForSome kept.answer (λ answer. length answer ≤ 32768)
 
 -- a readable request has at most 32,768 bytes
-short_request : (s : PharmacySettings) (request : List ℕ) → is_own_request s request ≡ true → length request ≤ 32768
+pub readable_short : (request : List ℕ) (header : RequestHeader) → readable_header request ≡ Some header → length request ≤ 32768
 unfolding readable_header
-short_request s request h = by_length (nat_le (length request) 32768) refl h
+readable_short request header h = by_test (nat_le (length request) 32768) refl h
   where
-    at_most : (n : ℕ) → nat_le n 32768 ≡ true → n ≤ 32768
-    at_most n t = grind (arith, nat_tests)
+    by_test : (short : Bool) → nat_le (length request) 32768 ≡ short → cond short (option_and_then if_carried (framed_header (transmission_of request_kind request))) None ≡ Some header → length request ≤ 32768
+    by_test true t h = leb-true (length request) 32768 t
+    by_test false t h = cc
 
-    by_length : (fits : Bool) → nat_le (length request) 32768 ≡ fits → is_own_header s (cond fits (option_and_then if_carried (framed_header (transmission_of request_kind request))) None) ≡ true → length request ≤ 32768
-    by_length true e t = at_most (length request) e
-    by_length false e t = cc
+short_request : (s : PharmacySettings) (request : List ℕ) → is_own_request s request ≡ true → length request ≤ 32768
+short_request s request h = by_header (readable_header request) refl h
+  where
+    by_header : (o : Option RequestHeader) → readable_header request ≡ o → is_own_header s o ≡ true → length request ≤ 32768
+    by_header None e t = cc
+    by_header (Some header) e t = readable_short request header e
 
 short_answer : (request : List ℕ) (answer : Option (List ℕ)) → is_kept_answer request answer ≡ true → ForSome answer (λ answer. length answer ≤ 32768)
 short_answer request None h = λ (x : List ℕ) e. cc
-short_answer request (Some answer) h = λ (x : List ℕ) e. subst (λ (a : List ℕ). length a ≤ 32768) (same_Some answer x e) (at_most (length answer) (and_parts (settles_with request answer) (nat_le (length answer) 32768) h).1)
-  where
-    at_most : (n : ℕ) → nat_le n 32768 ≡ true → n ≤ 32768
-    at_most n t = grind (arith, nat_tests)
+short_answer request (Some answer) h =
+    λ (x : List ℕ) e. subst (λ (a : List ℕ). length a ≤ 32768) (same_Some answer x e) (leb-true (length answer) 32768 (and_parts (settles_with request answer) (nat_le (length answer) 32768) h).1)
 
 -- what is added is short, and stands after the entries before it
 pub record IsLonger (j longer : JournalAtRest) (kept : Kept) : Type 0 where
@@ -84,6 +86,6 @@ added_all_is j all (kept ∷ entries) h =
     ∙ ap (λ (entries : List Kept). record { number = j.number; settings = j.settings; entries = entries }) (append_assoc j.entries (kept ∷ []) entries)
 
 -- a pharmacy that stops keeps its number, and as many entries
-pub entries-stopped : (j : Journal) → length (stopped j).entries ≡ length j.entries
+pub entries_stopped : (j : Journal) → length (stopped j).entries ≡ length j.entries
 unfolding stopped
-entries-stopped j = length-map j.entries kept_entry
+entries_stopped j = length-map j.entries kept_entry

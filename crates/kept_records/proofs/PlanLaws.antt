@@ -15,12 +15,13 @@ use Rattle.plan_rules.specs.Prices.{Prices, IsInOrder, by_bytes, is_product, pri
 use Rattle.plan_rules.specs.Terms.{Terms, IsPriced, largest, most_products, with_prices, repriced}
 use Rattle.kept_records.specs.declared.fault.RecordFault.{RecordFault}
 use Rattle.kept_records.specs.declared.fault.RecordFault.TheVariants.{BadRecord}
-use Rattle.kept_records.specs.Faults.{◌>>=◌, some_or, when_or}
-use Rattle.kept_records.specs.Products.{product_text, products_text, product_at}
-use Rattle.kept_records.specs.Plans.{is_after, is_next, listed, products_in}
-use Rattle.kept_records.proofs.FieldsOnly.{AreBytes, IsTaken}
+use Rattle.kept_records.specs.Faults.{◌>>=◌, some_or, when_or, each_in}
+use Rattle.kept_records.specs.Products.{product_codec, products_text}
+use Rattle.kept_records.specs.Plans.{is_after, is_next, listed}
+use Rattle.codec.specs.Laws.{AreBytes, IsTaken}
+use Rattle.codec.proofs.CodecLaws.{both_taken}
 use Rattle.kept_records.proofs.Chains.{some_or_then, when_or_then, result_then, ok_same, from_result_ok}
-use Rattle.kept_records.proofs.ProductTexts.{taken_then, product_at_taken, product_at-put}
+use Rattle.kept_records.proofs.Formats.{product_is, product_fits}
 use Rattle.kept_records.proofs.Ordered.{AreBelow, less_from_test, below_at, below_from_sorted, put_greatest, below_from_last}
 
 -- the plan with these prices
@@ -78,20 +79,20 @@ module _ (prices : Prices) (product : List ℕ) where
 pub record IsListed (plan new : Terms) (bytes rest : List ℕ) : Type 0 where
   pub entry : List ℕ × ℕ
   pub is : new ≡ priced_as plan (plan.prices ++ entry ∷ [])
-  pub taken : IsTaken bytes (product_text entry) rest
+  pub taken : IsTaken bytes (product_codec.text entry) rest
   pub in_order : IsInOrder (plan.prices ++ entry ∷ [])
   pub priced : IsPriced entry
 
 listed_is : (place : ℕ) (plan new : Terms) (bytes rest : List ℕ) → AreBytes bytes → IsInOrder plan.prices → listed place plan bytes ≡ Ok (new, rest) → IsListed plan new bytes rest
 unfolding listed
 listed_is place plan new bytes rest are in_order h =
-    let a = some_or_then (BadRecord place) (product_at bytes) (λ product. when_or (BadRecord place) (is_next plan.prices product.0.0) product >>= λ next. some_or (BadRecord place) (result_ok (repriced plan next.0.0 next.0.1)) >>= λ changed. Ok (changed, next.1)) (new, rest) h in
+    let a = some_or_then (BadRecord place) (product_codec.at bytes) (λ product. when_or (BadRecord place) (is_next plan.prices product.0.0) product >>= λ next. some_or (BadRecord place) (result_ok (repriced plan next.0.0 next.0.1)) >>= λ changed. Ok (changed, next.1)) (new, rest) h in
     let p : (List ℕ × ℕ) × List ℕ = a.0 in
     let b = when_or_then (BadRecord place) (is_next plan.prices p.0.0) p (λ next. some_or (BadRecord place) (result_ok (repriced plan next.0.0 next.0.1)) >>= λ changed. Ok (changed, next.1)) (new, rest) a.2 in
     let c = some_or_then (BadRecord place) (result_ok (repriced plan p.0.0 p.0.1)) (λ changed. Ok (changed, p.1)) (new, rest) b.1 in
     made p.0 p.1 c.0 a.1 b.0 (from_result_ok (repriced plan p.0.0 p.0.1) c.0 c.1) (ok_same (c.0, p.1) (new, rest) c.2)
   where
-    made : (entry : List ℕ × ℕ) (tail : List ℕ) (changed : Terms) → product_at bytes ≡ Some (entry, tail) → is_next plan.prices entry.0 ≡ true → repriced plan entry.0 entry.1 ≡ Ok changed
+    made : (entry : List ℕ × ℕ) (tail : List ℕ) (changed : Terms) → product_codec.at bytes ≡ Some (entry, tail) → is_next plan.prices entry.0 ≡ true → repriced plan entry.0 entry.1 ≡ Ok changed
         → ◌≡◌ {A = Terms × List ℕ} (changed, tail) (new, rest) → IsListed plan new bytes rest
     made entry tail changed found next set same =
         let below = below_from_next plan.prices entry.0 in_order next in
@@ -102,7 +103,7 @@ listed_is place plan new bytes rest are in_order h =
         subst (λ (x : Terms × List ℕ). IsListed plan x.0 bytes x.1) same (record {
           entry = entry;
           is = sym is.1 ∙ ap (priced_as plan) grown;
-          taken = (product_at_taken bytes entry tail are found).0;
+          taken = (product_is.only bytes entry tail are found).0;
           in_order = sorted;
           priced = is.0;
         })
@@ -116,8 +117,8 @@ pub record AreListed (plan new : Terms) (count : ℕ) (bytes rest : List ℕ) : 
   pub in_order : IsInOrder new.prices
   pub priced : All IsPriced more
 
-pub products_are : (total left : ℕ) (plan new : Terms) (bytes rest : List ℕ) → AreBytes bytes → IsInOrder plan.prices → products_in total left plan bytes ≡ Ok (new, rest) → AreListed plan new left bytes rest
-unfolding products_in
+pub products_are : (total left : ℕ) (plan new : Terms) (bytes rest : List ℕ) → AreBytes bytes → IsInOrder plan.prices → each_in listed total left plan bytes ≡ Ok (new, rest) → AreListed plan new left bytes rest
+unfolding each_in
 products_are total zero plan new bytes rest are in_order h =
     let same : ◌≡◌ {A = Terms × List ℕ} (plan, bytes) (new, rest) = ok_same (plan, bytes) (new, rest) h in
     subst (λ (x : Terms × List ℕ). AreListed plan x.0 zero bytes x.1) same (record {
@@ -129,7 +130,7 @@ products_are total zero plan new bytes rest are in_order h =
       priced = All-nil IsPriced;
     })
 products_are total (suc left) plan new bytes rest are in_order h =
-    let a = result_then (listed (total - length bytes) plan bytes) (λ next. products_in total left next.0 next.1) (new, rest) h in
+    let a = result_then (listed (total - length bytes) plan bytes) (λ next. each_in listed total left next.0 next.1) (new, rest) h in
     let first = listed_is (total - length bytes) plan a.0.0 bytes a.0.1 are in_order a.1 in
     let sorted : IsInOrder a.0.0.prices = subst (λ (t : Terms). IsInOrder t.prices) (sym first.is) first.in_order in
     let others = products_are total left a.0.0 new a.0.1 rest first.taken.rest_bytes sorted a.2 in
@@ -139,40 +140,37 @@ products_are total (suc left) plan new bytes rest are in_order h =
     joined between mid first others = record {
       more = first.entry ∷ others.more;
       is = others.is ∙ ap (λ (t : Terms). priced_as t (t.prices ++ others.more)) first.is ∙ ap (priced_as plan) (append_assoc plan.prices (first.entry ∷ []) others.more);
-      taken = taken_then bytes (product_text first.entry) mid (products_text others.more) rest first.taken others.taken;
+      taken = both_taken bytes (product_codec.text first.entry) mid (products_text others.more) rest first.taken others.taken;
       counted = ap suc others.counted;
       in_order = others.in_order;
       priced = All-cons IsPriced first.entry others.more first.priced others.priced;
     }
 
-fits_word : (n : ℕ) → n ≤ largest → n < 2 ^ 32
-fits_word n h = omega arith
-
 -- a product after lesser ones is listed
 listed_again : (place : ℕ) (plan : Terms) (entry : List ℕ × ℕ) (rest : List ℕ) → IsPriced entry → AreBelow by_bytes entry.0 plan.prices → length plan.prices < most_products
-    → listed place plan (product_text entry ++ rest) ≡ Ok (priced_as plan (plan.prices ++ entry ∷ []), rest)
+    → listed place plan (product_codec.text entry ++ rest) ≡ Ok (priced_as plan (plan.prices ++ entry ∷ []), rest)
 unfolding listed
 listed_again place plan entry rest good below room =
     let set : repriced plan entry.0 entry.1 ≡ Ok (priced_as plan (plan.prices ++ entry ∷ [])) = repriced_again plan entry.0 entry.1 good room ∙ ap (λ (ps : Prices). Ok (priced_as plan ps)) (put_greatest by_bytes nat_list_cmp_total entry.0 entry.1 plan.prices below) in
-    rw (product_at-put entry rest (fits_word entry.1 good.1), next_from_below plan.prices entry.0 below, set) refl
+    rw (product_is.back entry rest (product_fits entry good), next_from_below plan.prices entry.0 below, set) refl
 
 pub products_again : (total : ℕ) (plan : Terms) (more : Prices) (rest : List ℕ) → IsInOrder (plan.prices ++ more) → All IsPriced more → length (plan.prices ++ more) ≤ most_products
-    → products_in total (length more) plan (products_text more ++ rest) ≡ Ok (priced_as plan (plan.prices ++ more), rest)
-unfolding products_in
+    → each_in listed total (length more) plan (products_text more ++ rest) ≡ Ok (priced_as plan (plan.prices ++ more), rest)
+unfolding each_in
 products_again total plan [] rest in_order good few = ap (λ (ps : Prices). Ok (priced_as plan ps, rest)) (sym (append-nil plan.prices))
 products_again total plan (entry ∷ more) rest in_order good few =
     let tail : List ℕ = products_text more ++ rest in
     let between : Terms = priced_as plan (plan.prices ++ entry ∷ []) in
-    let regrouped : products_text (entry ∷ more) ++ rest ≡ product_text entry ++ tail = append_assoc (product_text entry) (products_text more) rest in
+    let regrouped : products_text (entry ∷ more) ++ rest ≡ product_codec.text entry ++ tail = append_assoc (product_codec.text entry) (products_text more) rest in
     let split : between.prices ++ more ≡ plan.prices ++ entry ∷ more = append_assoc plan.prices (entry ∷ []) more in
     let below = below_from_sorted by_bytes plan.prices entry more (T-from_true (is_sorted by_bytes (plan.prices ++ entry ∷ more)) in_order) in
     let longer : length (plan.prices ++ entry ∷ more) ≡ length plan.prices + suc (length more) = length-append plan.prices (entry ∷ more) in
-    let first = listed_again (total - length (product_text entry ++ tail)) plan entry tail (All-head IsPriced entry more good) below (omega arith) in
+    let first = listed_again (total - length (product_codec.text entry ++ tail)) plan entry tail (All-head IsPriced entry more good) below (omega arith) in
     let others = products_again total between more rest (subst (λ (ps : Prices). IsInOrder ps) (sym split) in_order) (All-tail IsPriced entry more good) (subst (λ (ps : Prices). length ps ≤ most_products) (sym split) few) in
-    ap (λ (bytes : List ℕ). products_in total (suc (length more)) plan bytes) regrouped
-    ∙ stepped (listed (total - length (product_text entry ++ tail)) plan (product_text entry ++ tail)) first
+    ap (λ (bytes : List ℕ). each_in listed total (suc (length more)) plan bytes) regrouped
+    ∙ stepped (listed (total - length (product_codec.text entry ++ tail)) plan (product_codec.text entry ++ tail)) first
     ∙ others ∙ ap (λ (ps : Prices). Ok (priced_as plan ps, rest)) split
   where
     stepped : (r : Result (Terms × List ℕ) RecordFault) → r ≡ Ok (priced_as plan (plan.prices ++ entry ∷ []), products_text more ++ rest)
-        → (r >>= λ next. products_in total (length more) next.0 next.1) ≡ products_in total (length more) (priced_as plan (plan.prices ++ entry ∷ [])) (products_text more ++ rest)
+        → (r >>= λ next. each_in listed total (length more) next.0 next.1) ≡ each_in listed total (length more) (priced_as plan (plan.prices ++ entry ∷ [])) (products_text more ++ rest)
     stepped r is = rw is refl

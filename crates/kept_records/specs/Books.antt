@@ -1,5 +1,5 @@
 -- Books at rest as bytes: how they are spelled, and how they are read.
-use Rattle.std.specs.Prelude.{ℕ, zero, suc, ◌-◌, Bool, not, ◌&&◌, ◌==◌, nat_le, List, [], ◌++◌, length, map, Result, Ok}
+use Rattle.std.specs.Prelude.{ℕ, Bool, not, ◌&&◌, ◌==◌, nat_le, List, [], ◌++◌, length, map, Result, Ok}
 use Rattle.envelope.specs.Txn.{Txn}
 use Rattle.plan_rules.specs.Terms.{Terms, largest, most_products}
 use Rattle.claim_model.specs.Rows.{Row, Book, BookSettings}
@@ -7,19 +7,33 @@ use Rattle.payer_book.specs.Added.{kept_row, added}
 use Rattle.kept_records.specs.declared.book_head.BookHead.{BookHead}
 use Rattle.kept_records.specs.declared.fault.RecordFault.{RecordFault}
 use Rattle.kept_records.specs.declared.fault.RecordFault.TheVariants.{Short, Version, BadRecord, NotABook}
-use Rattle.kept_records.specs.Faults.{◌>>=◌, some_or, when_or}
+use Rattle.kept_records.specs.Faults.{◌>>=◌, some_or, when_or, each_in, ended}
 use Rattle.kept_records.specs.Products.{products_text}
-use Rattle.kept_records.specs.Plans.{products_in}
-use Rattle.kept_records.specs.Rows.{rows_text, row_at, book_name, head_text, head_at}
+use Rattle.kept_records.specs.Plans.{listed}
+use Rattle.kept_records.specs.Heads.{book_name, book_head_codec}
+use Rattle.kept_records.specs.Rows.{rows_text, row_codec}
 use Rattle.kept_records.specs.Versions.{is_version, fits_version}
 
 -- the book of these parts
 abbrev pub book_of : ℕ → BookSettings → Terms → List Row → Book
 book_of payer settings plan rows = record { payer = payer; settings = settings; plan = plan; rows = rows }
 
+-- the head of a book in this version
+abbrev pub head_of : ℕ → Book → BookHead
+head_of version b = record {
+  name = book_name;
+  version = version;
+  payer = b.payer;
+  serial = b.settings.serial;
+  fee = b.plan.fee;
+  copay = b.plan.copay;
+  products = length b.plan.prices;
+  rows = length b.rows;
+}
+
 -- a book in this version: its head, the products of its plan and its rows
 unfoldable pub book_text : ℕ → Book → List ℕ
-book_text version b = head_text version b ++ (products_text b.plan.prices ++ rows_text (map kept_row b.rows))
+book_text version b = book_head_codec.text (head_of version b) ++ (products_text b.plan.prices ++ rows_text (map kept_row b.rows))
 
 -- neither the pharmacy nor the number is zero
 abbrev pub is_id : Txn → Bool
@@ -28,18 +42,15 @@ is_id id = not (id.pharmacy == 0) && not (id.number == 0)
 -- the book with the row that stands at the front of the bytes, and what follows it, or what is wrong with it
 unfoldable pub row_in : ℕ → ℕ → Book → List ℕ → Result (Book × List ℕ) RecordFault
 row_in version place b bytes = do
-  row ← some_or (BadRecord place) (row_at bytes)
+  row ← some_or (BadRecord place) (row_codec.at bytes)
   named ← when_or (BadRecord place) (is_id row.0.id) row
   fitting ← when_or (BadRecord place) (fits_version version row.0.request) named
   new ← some_or (BadRecord place) (added b fitting.0.id fitting.0.request fitting.0.answer)
   Ok (new, fitting.1)
 
--- the book with this many rows more, which stand in the last bytes of this many, all of them
+-- the book with this many rows more, which are all of these bytes, the last of this many
 unfoldable pub rows_in : ℕ → ℕ → ℕ → Book → List ℕ → Result Book RecordFault
-rows_in version total zero b bytes = when_or (BadRecord (total - length bytes)) (length bytes == 0) b
-rows_in version total (suc left) b bytes = do
-  next ← row_in version (total - length bytes) b bytes
-  rows_in version total left next.0 next.1
+rows_in version total left b bytes = each_in (row_in version) total left b bytes >>= ended total
 
 -- the head is that of a book of this payer, with this first serial
 abbrev pub is_head_of : ℕ → ℕ → BookHead → Bool
@@ -52,7 +63,7 @@ has_terms head = nat_le head.fee largest && (nat_le head.copay largest && nat_le
 -- the head that stands at the front of the bytes, and what follows it, or what is wrong with it
 unfoldable pub book_head_in : ℕ → ℕ → List ℕ → Result (BookHead × List ℕ) RecordFault
 book_head_in payer serial bytes = do
-  head ← some_or Short (head_at bytes)
+  head ← some_or Short (book_head_codec.at bytes)
   own ← when_or NotABook (is_head_of payer serial head.0) head
   known ← when_or Version (is_version head.0.version) own
   when_or (BadRecord 29) (has_terms head.0) known
@@ -69,5 +80,5 @@ first_book payer settings plan = book_of payer settings plan []
 unfoldable pub book_in : ℕ → BookSettings → List ℕ → Result Book RecordFault
 book_in payer settings bytes = do
   head ← book_head_in payer settings.serial bytes
-  plan ← products_in (length bytes) head.0.products (first_plan head.0) head.1
+  plan ← each_in listed (length bytes) head.0.products (first_plan head.0) head.1
   rows_in head.0.version (length bytes) head.0.rows (first_book payer settings plan.0) plan.1

@@ -1,5 +1,5 @@
--- Causes in order, one line for each.
-use Rattle.std.specs.Prelude.{◌≡◌, ◌≢◌, ℕ, Bool, true, false, Option, Some, None, Result, Ok, Err, IfErr}
+-- Causes in order, one line for each; and records, one after the other.
+use Rattle.std.specs.Prelude.{◌≡◌, ◌≢◌, ℕ, zero, suc, ◌-◌, ◌==◌, Bool, true, false, List, length, Option, Some, None, Result, Ok, Err, IfErr}
 use Rattle.kept_records.specs.declared.fault.RecordFault.{RecordFault}
 use Rattle.kept_records.specs.declared.fault.RecordFault.TheVariants.{OutOfMemory, BadRecord}
 
@@ -25,3 +25,14 @@ RefusesAs outcome result = IfErr result (λ e. e ≢ OutOfMemory → outcome ≡
 -- the record at this place is refused only where this is so
 abbrev pub RefusesAt : {A : Type 0} → ℕ → Type 0 → Result A RecordFault → Type 0
 RefusesAt place P result = IfErr result (λ e. e ≢ OutOfMemory → (e ≡ BadRecord place) × P)
+
+-- with this many records more, which stand at the front of the last bytes of this many, each read with what those before it made; and what follows them
+unfoldable pub each_in : {S : Type 0} → (ℕ → S → List ℕ → Result (S × List ℕ) RecordFault) → ℕ → ℕ → S → List ℕ → Result (S × List ℕ) RecordFault
+each_in one total zero s bytes = Ok (s, bytes)
+each_in one total (suc left) s bytes = do
+  next ← one (total - length bytes) s bytes
+  each_in one total left next.0 next.1
+
+-- what the last record made, where no byte is left; else what is left, of this many bytes in all, is bad
+unfoldable pub ended : {S : Type 0} → ℕ → S × List ℕ → Result S RecordFault
+ended total read = when_or (BadRecord (total - length read.1)) (length read.1 == 0) read.0

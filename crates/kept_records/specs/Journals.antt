@@ -1,24 +1,24 @@
 -- A journal at rest: its text, and what bytes are as a journal, or the first fault that stands.
-use Rattle.std.specs.Prelude.{◌≡◌, ◌⊎◌, IsTrue, ℕ, suc, zero, ◌+◌, ◌-◌, Bool, ◌&&◌, ◌==◌, List, [], ◌∷◌, ◌++◌, length, codes, Some, Result, Ok}
+use Rattle.std.specs.Prelude.{◌≡◌, ◌⊎◌, IsTrue, ℕ, ◌+◌, Bool, ◌&&◌, ◌==◌, List, [], ◌++◌, length, Some, Result, Ok}
 use Rattle.std.specs.List.{list_all}
-use Rattle.std.specs.Int.{w16, w32, to_be_bytes, from_be_bytes}
 use Rattle.claim_profile.specs.Readable.{readable_header}
 use Rattle.claim_model.specs.Journal.{PharmacySettings, JournalAtRest, Kept}
 use Rattle.pharmacy_journal.specs.Resting.{added, added_all}
+use Rattle.kept_records.specs.declared.journal_parts.JournalHead.{JournalHead}
 use Rattle.kept_records.specs.declared.fault.RecordFault.{RecordFault}
 use Rattle.kept_records.specs.declared.fault.RecordFault.TheVariants.{Short, Version, BadRecord, NumberOrder, NotABook}
-use Rattle.kept_records.specs.Heads.{HeadParts, head_at}
-use Rattle.kept_records.specs.Entries.{entries_text, entry_at}
+use Rattle.kept_records.specs.Heads.{journal_name, journal_head_codec}
+use Rattle.kept_records.specs.Entries.{entries_text, entry_codec}
 use Rattle.kept_records.specs.Versions.{is_version, has_one, fits_version}
-use Rattle.kept_records.specs.Faults.{◌>>=◌, some_or, when_or}
+use Rattle.kept_records.specs.Faults.{◌>>=◌, some_or, when_or, each_in, ended}
 
 -- the head of a journal with this many entries
-unfoldable pub journal_head : ℕ → ℕ → ℕ → List ℕ
-journal_head version number count = codes "PJ" ++ version ∷ to_be_bytes w16 number ++ to_be_bytes w32 count
+abbrev pub head_of : ℕ → ℕ → ℕ → JournalHead
+head_of version number count = record { mark = journal_name; version = version; number = number; count = count }
 
 -- the text of a journal
 unfoldable pub journal_text : ℕ → JournalAtRest → List ℕ
-journal_text version j = journal_head version j.number (length j.entries) ++ entries_text 1 j.entries
+journal_text version j = journal_head_codec.text (head_of version j.number (length j.entries)) ++ entries_text 1 j.entries
 
 -- a journal without entries
 abbrev pub empty_journal : ℕ → PharmacySettings → JournalAtRest
@@ -47,37 +47,30 @@ pub record IsKept (number : ℕ) (settings : PharmacySettings) (bytes : List ℕ
   pub made : IsMade j
   pub text : IsTextOf bytes j
 
--- the head at the front, or what is wrong with it
-unfoldable pub head_in : ℕ → List ℕ → Result HeadParts RecordFault
+-- the head at the front and what follows it, or what is wrong with it
+unfoldable pub head_in : ℕ → List ℕ → Result (JournalHead × List ℕ) RecordFault
 head_in number bytes = do
-  head ← some_or Short (head_at bytes)
-  own ← when_or NotABook (head.mark == from_be_bytes w16 (codes "PJ") && head.number == number) head
-  when_or Version (is_version head.version) own
+  head ← some_or Short (journal_head_codec.at bytes)
+  own ← when_or NotABook (head.0.mark == journal_name && head.0.number == number) head
+  when_or Version (is_version head.0.version) own
 
 -- the journal with the entry at the front and what follows it, or what is wrong with it
 unfoldable pub entry_in : ℕ → ℕ → JournalAtRest → List ℕ → Result (JournalAtRest × List ℕ) RecordFault
 entry_in version place j bytes = do
-  entry ← some_or (BadRecord place) (entry_at bytes)
-  longer ← some_or (BadRecord place) (added j entry.request entry.answer)
-  fitting ← when_or (BadRecord place) (fits_version version entry.request) longer
-  when_or (NumberOrder place) (entry.number == length j.entries + 1) (fitting, entry.rest)
+  entry ← some_or (BadRecord place) (entry_codec.at bytes)
+  longer ← some_or (BadRecord place) (added j entry.0.1.request entry.0.1.answer)
+  fitting ← when_or (BadRecord place) (fits_version version entry.0.1.request) longer
+  when_or (NumberOrder place) (entry.0.0 == length j.entries + 1) (fitting, entry.1)
 
--- the journal where no byte is left after its last entry; else what is left, of this many bytes in all, is bad
-unfoldable pub finished : ℕ → JournalAtRest → List ℕ → Result JournalAtRest RecordFault
-finished total j bytes = when_or (BadRecord (total - length bytes)) (length bytes == 0) j
-
--- the journal with as many entries as are left, which are all of these bytes, the last of this many; or the first fault
+-- the journal with this many entries more, which are all of these bytes, the last of this many; or the first fault
 unfoldable pub entries_in : ℕ → ℕ → ℕ → JournalAtRest → List ℕ → Result JournalAtRest RecordFault
-entries_in version total zero j bytes = finished total j bytes
-entries_in version total (suc left) j bytes = do
-  next ← entry_in version (total - length bytes) j bytes
-  entries_in version total left next.0 next.1
+entries_in version total left j bytes = each_in (entry_in version) total left j bytes >>= ended total
 
 -- the journal of this number that bytes are, or the first fault
 unfoldable pub journal_in : ℕ → PharmacySettings → List ℕ → Result JournalAtRest RecordFault
 journal_in number settings bytes = do
   head ← head_in number bytes
-  entries_in head.version (length bytes) head.count (empty_journal number settings) head.rest
+  entries_in head.0.version (length bytes) head.0.count (empty_journal number settings) head.1
 
 -- bytes are this journal, read with its number and its settings
 abbrev pub ReadsAs : List ℕ → JournalAtRest → Type 0

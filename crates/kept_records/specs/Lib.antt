@@ -1,12 +1,11 @@
 pub mod Fields
 pub mod Faults
-pub mod Options
 pub mod Versions
+pub mod Heads
 pub mod Products
 pub mod Plans
 pub mod Rows
 pub mod Books
 pub mod BookLaws
-pub mod Heads
 pub mod Entries
 pub mod Journals

@@ -1,5 +1,5 @@
 -- The products of a plan, as they are read.
-use Rattle.std.specs.Prelude.{ℕ, zero, suc, ◌-◌, Bool, true, List, length, slice_get, Option, Some, None, Result, Ok}
+use Rattle.std.specs.Prelude.{ℕ, ◌-◌, Bool, true, List, length, slice_get, Option, Some, None, Result, Ok}
 use Rattle.std.specs.Ordering.{is_lt}
 use Rattle.std.specs.Result.{result_ok}
 use Rattle.plan_rules.specs.Prices.{Prices, by_bytes}
@@ -7,7 +7,7 @@ use Rattle.plan_rules.specs.Terms.{Terms, repriced}
 use Rattle.kept_records.specs.declared.fault.RecordFault.{RecordFault}
 use Rattle.kept_records.specs.declared.fault.RecordFault.TheVariants.{BadRecord}
 use Rattle.kept_records.specs.Faults.{◌>>=◌, some_or, when_or}
-use Rattle.kept_records.specs.Products.{product_at}
+use Rattle.kept_records.specs.Products.{product_codec}
 
 -- the product is greater than this one, in byte order
 abbrev pub is_after : List ℕ → Option (List ℕ × ℕ) → Bool
@@ -21,14 +21,7 @@ is_next prices product = is_after product (slice_get prices (length prices - 1))
 -- the plan with the product that stands at the front of the bytes, and what follows it, or what is wrong with it
 unfoldable pub listed : ℕ → Terms → List ℕ → Result (Terms × List ℕ) RecordFault
 listed place plan bytes = do
-  product ← some_or (BadRecord place) (product_at bytes)
+  product ← some_or (BadRecord place) (product_codec.at bytes)
   next ← when_or (BadRecord place) (is_next plan.prices product.0.0) product
   new ← some_or (BadRecord place) (result_ok (repriced plan next.0.0 next.0.1))
   Ok (new, next.1)
-
--- the plan with this many products, which stand at the front of the last bytes of this many, and what follows them
-unfoldable pub products_in : ℕ → ℕ → Terms → List ℕ → Result (Terms × List ℕ) RecordFault
-products_in total zero plan bytes = Ok (plan, bytes)
-products_in total (suc left) plan bytes = do
-  next ← listed (total - length bytes) plan bytes
-  products_in total left next.0 next.1

@@ -1,7 +1,13 @@
 -- What the versions of records differ in.
-use Rattle.std.specs.Prelude.{ℕ, Bool, true, false, ◌||◌, ◌==◌, List, Option, Some, None, if◌then◌else◌}
+use Rattle.std.specs.Prelude.{ℕ, ⊤, Bool, true, false, ◌||◌, ◌==◌, List, [], ◌∷◌, Option, Some, None, if◌then◌else◌}
 use Rattle.d0_header.specs.Request.{Request}
 use Rattle.claim_profile.specs.Readable.{readable_header}
+use Rattle.codec.specs.Fields.{u8_at}
+use Rattle.codec.specs.Codecs.{Codec}
+
+-- a version, as its byte; nothing is said of what it is
+abbrev pub version_codec : Codec ℕ
+version_codec = record { text = λ version. version ∷ []; at = u8_at; Fits = λ version. ⊤ }
 
 -- the versions that are read
 abbrev pub is_version : ℕ → Bool

@@ -3,12 +3,12 @@
 ghost use Rattle.std.specs.Prelude.{◌≡◌, ◌≤◌, IfOk, IfErr, Ok, Err};
 ghost use Rattle.std.specs.Option.{option_map};
 ghost use Rattle.plan_rules.specs.Terms.{largest};
-ghost use Rattle.kept_records.specs.Rows.{head_at};
+ghost use Rattle.kept_records.specs.Heads.{book_head_codec};
 ghost use Rattle.kept_records.specs.Versions.{is_version};
 ghost use Rattle.kept_records.specs.Books.{is_head_of, has_terms, book_head_in};
 
 use crate::fault::RecordFault;
-use crate::fields::{take_u8, take_u16, take_u32, take_u64};
+use codec::{take_u8, take_u16, take_u32, take_u64};
 
 /// The two bytes that begin a book, `PB`, as a number (own).
 pub(crate) const BOOK_NAME: u16 = 0x5042;
@@ -37,9 +37,9 @@ pub(crate) struct BookHead {
 
 impl BookHead {
     /// The head at the front and what follows it; none where it is cut off.
-    #[tactic(auto, unfolding(crate::specs::Rows::head_at))]
+    #[tactic(auto, unfolding(crate::specs::Heads::book_head_codec))]
     fn take(bytes: &[u8]) -> Option<(BookHead, &[u8])>
-        ensures { option_map (λ taken. (taken.0, taken.1.now)) result ≡ head_at bytes.now }
+        ensures { option_map (λ taken. (taken.0, taken.1.now)) result ≡ book_head_codec.at bytes.now }
     {
         let (name, rest) = take_u16(bytes)?;
         let (version, rest) = take_u8(rest)?;

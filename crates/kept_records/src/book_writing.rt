@@ -1,15 +1,15 @@
 //! Books at rest, as they are written.
 
 ghost use Rattle.std.specs.Prelude.{◌≡◌, ◌≤◌, ◌++◌, length, Ok, IfOk, OnOk};
-ghost use Rattle.kept_records.specs.Rows.{identity_text, counts_text};
+ghost use Rattle.kept_records.specs.Heads.{book_name, identity_codec, counts_codec};
 ghost use Rattle.kept_records.specs.Books.{book_of, book_text, book_in};
 ghost use Rattle.kept_records.specs.BookLaws.{FitsBook};
 
 use crate::book_head::BOOK_NAME;
 use crate::book_laws::book_reads_back;
 use crate::products::put_products;
-use crate::putting::{put_u8, put_u16, put_u32, put_u64};
 use crate::rows::put_rows;
+use codec::{put_u8, put_u16, put_u32, put_u64};
 use payer_book::{Book, BookAtRest, BookSettings, PayerNo, Plan, Row};
 use std::alloc::{AllocError, Global};
 
@@ -47,7 +47,7 @@ pub fn save_book(alloc: Global, book: &Book) -> Result<Vec<u8>, AllocError>
 }
 
 /// The text of the book that has these parts. Each part fits its field.
-#[tactic(auto, unfolding(crate::specs::Books::book_text))]
+#[tactic(auto, unfolding(crate::specs::Books::book_text, crate::specs::Heads::book_head_codec))]
 fn write_parts(
     alloc: Global,
     payer: PayerNo,
@@ -71,7 +71,7 @@ fn write_parts(
 
 /// Puts what a head begins with: the name, the version, the payer and the first serial.
 fn put_identity(out: &mut Vec<u8>, payer: u16, serial: u64) -> Result<(), AllocError>
-    ensures { OnOk result (out.new.items ≡ out.old.items ++ identity_text 2 payer serial) }
+    ensures { OnOk result (out.new.items ≡ out.old.items ++ identity_codec.text (book_name, (2, (payer, serial)))) }
 {
     put_u16(out, BOOK_NAME)?;
     put_u8(out, WRITTEN)?;
@@ -81,7 +81,8 @@ fn put_identity(out: &mut Vec<u8>, payer: u16, serial: u64) -> Result<(), AllocE
 
 /// Puts what a head ends with: the fee, the copay, the count of products and the count of rows.
 fn put_counts(out: &mut Vec<u8>, plan: &Plan, rows: u32) -> Result<(), AllocError>
-    ensures { OnOk result (out.new.items ≡ out.old.items ++ counts_text plan.now rows) }
+    ensures { OnOk result (out.new.items ≡ out.old.items
+        ++ counts_codec.text (plan.now.fee, (plan.now.copay, (length plan.now.prices, rows)))) }
 {
     put_u32(out, plan.fee())?;
     put_u32(out, plan.copay())?;

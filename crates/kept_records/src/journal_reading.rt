@@ -3,9 +3,8 @@
 ghost use Rattle.std.specs.Prelude.{◌≡◌, ◌<◌, length, Ok, Err, Some, None, IfOk, IfErr, OnOk};
 ghost use Rattle.std.specs.Option.{option_copied};
 ghost use Rattle.pharmacy_journal.specs.Resting.{added};
-ghost use Rattle.kept_records.specs.Faults.{RefusesAs, RefusesAt};
-ghost use Rattle.kept_records.specs.Heads.{head_taken};
-ghost use Rattle.kept_records.specs.Journals.{head_in, entry_in, finished, entries_in, journal_in, IsKept};
+ghost use Rattle.kept_records.specs.Faults.{RefusesAs, RefusesAt, ended};
+ghost use Rattle.kept_records.specs.Journals.{head_in, entry_in, entries_in, journal_in, IsKept};
 
 use crate::fault::RecordFault;
 use crate::journal_laws::journal_is_its_text;
@@ -65,18 +64,18 @@ fn read_parts(
     ensures ok { IfOk result (λ j. journal_in number settings bytes.now ≡ Ok j) }
     ensures fault { RefusesAs (journal_in number settings bytes.now) result }
 {
-    let head = asked_head(bytes, number)?;
+    let (head, rest) = asked_head(bytes, number)?;
     let journal = JournalAtRest::new(alloc, number, settings);
-    read_entries(alloc, journal, &head, bytes.len())
+    read_entries(alloc, journal, head, bytes.len(), rest)
 }
 
-/// The head of the journal that is asked for.
+/// The head of the journal that is asked for, and what follows it.
 #[tactic(auto, unfolding(crate::specs::Journals::head_in))]
-fn asked_head(bytes: &[u8], number: u16) -> Result<JournalHead<'_>, RecordFault>
-    ensures ok { IfOk result (λ h. head_in number bytes.now ≡ Ok (head_taken h)) }
+fn asked_head(bytes: &[u8], number: u16) -> Result<(JournalHead, &[u8]), RecordFault>
+    ensures ok { IfOk result (λ read. head_in number bytes.now ≡ Ok (read.0, read.1.now)) }
     ensures fault { IfErr result (λ e. head_in number bytes.now ≡ Err e) }
 {
-    let Some(head) = take_head(bytes) else {
+    let Some((head, rest)) = take_head(bytes) else {
         return Err(RecordFault::Short);
     };
     if head.mark != MARK || head.number != number {
@@ -85,20 +84,21 @@ fn asked_head(bytes: &[u8], number: u16) -> Result<JournalHead<'_>, RecordFault>
     if head.version != SINGLE_VERSION && head.version != VERSION {
         return Err(RecordFault::Version);
     }
-    Ok(head)
+    Ok((head, rest))
 }
 
-/// The journal with as many entries more as the head says, which are all that follows it.
+/// The journal with as many entries more as the head says, which are all of these last bytes of `total`.
 fn read_entries(
     alloc: Global,
     mut journal: JournalAtRest,
-    head: &JournalHead<'_>,
+    head: JournalHead,
     total: usize,
+    bytes: &[u8],
 ) -> Result<JournalAtRest, RecordFault>
-    ensures ok { IfOk result (λ j. entries_in head.now.version total head.now.count journal head.now.rest.now ≡ Ok j) }
-    ensures fault { RefusesAs (entries_in head.now.version total head.now.count journal head.now.rest.now) result }
+    ensures ok { IfOk result (λ j. entries_in head.version total head.count journal bytes.now ≡ Ok j) }
+    ensures fault { RefusesAs (entries_in head.version total head.count journal bytes.now) result }
 {
-    let mut rest = head.rest;
+    let mut rest = bytes;
     for _ in 0..head.count {
         let place = total.saturating_sub(rest.len());
         rest = enter(alloc, &mut journal, head.version, place, rest)?;
@@ -107,9 +107,9 @@ fn read_entries(
 }
 
 /// The journal where no byte follows its last entry.
-#[tactic(auto, unfolding(crate::specs::Journals::finished))]
+#[tactic(auto, unfolding(crate::specs::Faults::ended))]
 fn finish(journal: JournalAtRest, total: usize, rest: &[u8]) -> Result<JournalAtRest, RecordFault>
-    ensures { result ≡ finished total journal rest.now }
+    ensures { result ≡ ended total (journal, rest.now) }
 {
     if rest.is_empty() {
         Ok(journal)
@@ -130,7 +130,7 @@ fn enter<'a>(
     ensures ok { IfOk result (λ rest. entry_in version place journal.old bytes.now ≡ Ok (journal.new, rest.now)) }
     ensures fault { RefusesAs (entry_in version place journal.old bytes.now) result }
 {
-    let Some(entry) = take_entry(bytes) else {
+    let Some((entry, rest)) = take_entry(bytes) else {
         return Err(RecordFault::BadRecord(place));
     };
     let next = journal.entries() as u64 + 1;
@@ -139,7 +139,7 @@ fn enter<'a>(
     if entry.number != next {
         return Err(RecordFault::NumberOrder(place));
     }
-    Ok(entry.rest)
+    Ok(rest)
 }
 
 /// Adds an entry whose record is at this place.

@@ -5,19 +5,24 @@ ghost use Rattle.std.specs.Option.{option_copied, ForSome};
 ghost use Rattle.claim_model.specs.Journal.{stopped};
 ghost use Rattle.envelope.specs.Envelope.{longest_payload};
 ghost use Rattle.pharmacy_journal.specs.Entries.{kept_seen};
-ghost use Rattle.kept_records.specs.Entries.{answer_text, entry_text, entries_text};
-ghost use Rattle.kept_records.specs.Journals.{journal_head, journal_text, journal_in, ReadsAs};
+ghost use Rattle.kept_records.specs.Heads.{journal_head_codec};
+ghost use Rattle.kept_records.specs.Entries.{answer_codec, entry_codec, entries_text};
+ghost use Rattle.kept_records.specs.Journals.{head_of, journal_text, journal_in, ReadsAs};
 
+use crate::journal_laws::journal_reads_back;
 use crate::journal_reading::{MARK, VERSION};
-use crate::putting::{put_text, put_u8, put_u16, put_u32, put_u64};
+use crate::texts::put_text;
+use codec::{put_u8, put_u16, put_u32, put_u64};
 use pharmacy_journal::{JournalAtRest, KeptEntry, Pharmacy};
 use std::alloc::{AllocError, Global};
 
 /// The text of a journal, of version 2. It is read as this journal.
+#[tactic(auto, unfolding(crate::specs::Journals::journal_text))]
 pub fn write_journal(alloc: Global, journal: &JournalAtRest) -> Result<Vec<u8>, AllocError>
     ensures text { IfOk result (λ text. text.items ≡ journal_text 2 journal.now) }
     ensures read { IfOk result (λ text. ReadsAs text.items journal.now) }
 {
+    journal_reads_back();
     let mut text = Vec::new(alloc);
     put_head(&mut text, journal.number(), journal.entries() as u32)?;
     put_resting(&mut text, journal)?;
@@ -26,11 +31,13 @@ pub fn write_journal(alloc: Global, journal: &JournalAtRest) -> Result<Vec<u8>, 
 
 /// The text of the journal that the pharmacy would leave if it stopped, of version 2. It is read as that
 /// journal. The pharmacy goes on.
+#[tactic(auto, unfolding(crate::specs::Journals::journal_text, claim_model::specs::Journal::stopped))]
 pub fn save_journal(alloc: Global, pharmacy: &Pharmacy) -> Result<Vec<u8>, AllocError>
     ensures text { IfOk result (λ text. text.items ≡ journal_text 2 (stopped pharmacy.now)) }
     ensures read { IfOk result (λ text. journal_in pharmacy.now.number pharmacy.now.settings text.items
         ≡ Ok (stopped pharmacy.now)) }
 {
+    journal_reads_back();
     let mut text = Vec::new(alloc);
     put_head(&mut text, pharmacy.number(), pharmacy.entries() as u32)?;
     put_running(&mut text, pharmacy)?;
@@ -38,9 +45,9 @@ pub fn save_journal(alloc: Global, pharmacy: &Pharmacy) -> Result<Vec<u8>, Alloc
 }
 
 /// Puts the head of a journal with this many entries.
-#[tactic(auto, unfolding(crate::specs::Journals::journal_head))]
+#[tactic(auto, unfolding(crate::specs::Heads::journal_head_codec))]
 fn put_head(text: &mut Vec<u8>, number: u16, count: u32) -> Result<(), AllocError>
-    ensures { OnOk result (text.new.items ≡ text.old.items ++ journal_head 2 number count) }
+    ensures { OnOk result (text.new.items ≡ text.old.items ++ journal_head_codec.text (head_of 2 number count)) }
 {
     put_u16(text, MARK)?;
     put_u8(text, VERSION)?;
@@ -75,11 +82,11 @@ fn put_running(text: &mut Vec<u8>, pharmacy: &Pharmacy) -> Result<(), AllocError
 }
 
 /// Puts an entry and its number.
-#[tactic(auto, unfolding(crate::specs::Entries::entry_text))]
+#[tactic(auto, unfolding(crate::specs::Entries::entry_codec))]
 fn put_entry(text: &mut Vec<u8>, number: u64, kept: KeptEntry<'_>) -> Result<(), AllocError>
     requires request { length kept.request.now ≤ longest_payload }
     requires answer { ForSome (option_copied kept.answer) (λ answer. length answer ≤ longest_payload) }
-    ensures { OnOk result (text.new.items ≡ text.old.items ++ entry_text number (kept_seen kept.entry)) }
+    ensures { OnOk result (text.new.items ≡ text.old.items ++ entry_codec.text (number, kept_seen kept.entry)) }
 {
     put_u64(text, number)?;
     put_text(text, kept.request)?;
@@ -87,9 +94,10 @@ fn put_entry(text: &mut Vec<u8>, number: u64, kept: KeptEntry<'_>) -> Result<(),
 }
 
 /// Puts an answer after its flag.
+#[tactic(auto, unfolding(crate::specs::Entries::answer_codec))]
 fn put_answer(text: &mut Vec<u8>, answer: Option<&[u8]>) -> Result<(), AllocError>
     requires { ForSome (option_copied answer) (λ answer. length answer ≤ longest_payload) }
-    ensures { OnOk result (text.new.items ≡ text.old.items ++ answer_text (option_copied answer.entry)) }
+    ensures { OnOk result (text.new.items ≡ text.old.items ++ answer_codec.text (option_copied answer.entry)) }
 {
     match answer {
         None => put_u8(text, 0),

@@ -4,13 +4,12 @@ ghost use Rattle.std.specs.Prelude.{◌≡◌, ◌≤◌, ◌<◌, ◌++◌, len
 ghost use Rattle.std.specs.Option.{option_map};
 ghost use Rattle.std.specs.Result.{result_ok};
 ghost use Rattle.plan_rules.specs.Terms.{repriced};
-ghost use Rattle.kept_records.specs.Faults.{RefusesAs, RefusesAt};
-ghost use Rattle.kept_records.specs.Products.{product_text, products_text, text_there, bytes_at, product_at};
-ghost use Rattle.kept_records.specs.Plans.{is_next, listed, products_in};
+ghost use Rattle.kept_records.specs.Faults.{RefusesAs, RefusesAt, each_in};
+ghost use Rattle.kept_records.specs.Products.{product_codec, products_text, text_there};
+ghost use Rattle.kept_records.specs.Plans.{is_next, listed};
 
 use crate::fault::RecordFault;
-use crate::fields::{take_u8, take_u32};
-use crate::putting::{put_u8, put_u32};
+use codec::{put_u8, put_u32, take_bytes, take_u8, take_u32};
 use plan_rules::{Plan, PlanFault};
 use std::alloc::AllocError;
 
@@ -21,24 +20,14 @@ struct Listed<'a> {
     price: u32,
 }
 
-/// The first `count` bytes and what follows them; none where there are fewer.
-#[tactic(auto, unfolding(crate::specs::Products::bytes_at))]
-fn take_bytes(count: usize, bytes: &[u8]) -> Option<(&[u8], &[u8])>
-    ensures { option_map (λ taken. (taken.0.now, taken.1.now)) result ≡ bytes_at count bytes.now }
-{
-    if count > bytes.len() {
-        return None;
-    }
-    Some((&bytes[..count], &bytes[count..]))
-}
-
 /// The product at the front and what follows it; none where it is cut off.
-#[tactic(auto, unfolding(crate::specs::Products::product_at))]
+#[tactic(auto, unfolding(crate::specs::Products::product_codec))]
 fn take_product(bytes: &[u8]) -> Option<(Listed<'_>, &[u8])>
-    ensures { option_map (λ taken. ((taken.0.product.now, taken.0.price), taken.1.now)) result ≡ product_at bytes.now }
+    ensures { option_map (λ taken. ((taken.0.product.now, taken.0.price), taken.1.now)) result
+        ≡ product_codec.at bytes.now }
 {
     let (count, rest) = take_u8(bytes)?;
-    let (product, rest) = take_bytes(usize::from(count), rest)?;
+    let (product, rest) = take_bytes(u64::from(count), rest)?;
     let (price, rest) = take_u32(rest)?;
     Some((Listed { product, price }, rest))
 }
@@ -89,8 +78,8 @@ pub(crate) fn read_products(
     mut plan: Plan,
     bytes: &[u8],
 ) -> Result<(Plan, &[u8]), RecordFault>
-    ensures ok { IfOk result (λ read. products_in total count plan bytes.now ≡ Ok (read.0, read.1.now)) }
-    ensures fault { RefusesAs (products_in total count plan bytes.now) result }
+    ensures ok { IfOk result (λ read. each_in listed total count plan bytes.now ≡ Ok (read.0, read.1.now)) }
+    ensures fault { RefusesAs (each_in listed total count plan bytes.now) result }
 {
     let mut rest = bytes;
     for _ in 0..count {
@@ -122,9 +111,10 @@ fn put_product_of(out: &mut Vec<u8>, plan: &Plan, place: usize) -> Result<(), Al
 }
 
 /// Puts a product of at most 255 bytes after its length, and its price.
+#[tactic(auto, unfolding(crate::specs::Products::product_codec))]
 fn put_product(out: &mut Vec<u8>, product: &[u8], price: u32) -> Result<(), AllocError>
     requires { length product.now ≤ 255 }
-    ensures { OnOk result (out.new.items ≡ out.old.items ++ product_text (product.now, price)) }
+    ensures { OnOk result (out.new.items ≡ out.old.items ++ product_codec.text (product.now, price)) }
 {
     put_u8(out, product.len() as u8)?;
     out.extend_from_slice(product)?;

@@ -1,18 +1,17 @@
 //! The rows of a book, as they are written and as they are read.
 
-ghost use Rattle.std.specs.Prelude.{◌≡◌, ◌==◌, ◌-◌, ◌++◌, length, map, Ok, None, Some, IfOk, OnOk};
+ghost use Rattle.std.specs.Prelude.{◌≡◌, ◌++◌, map, Ok, None, Some, IfOk, OnOk};
 ghost use Rattle.std.specs.Option.{option_map};
 ghost use Rattle.payer_book.specs.Added.{kept_row, added};
-ghost use Rattle.kept_records.specs.Faults.{when_or, RefusesAs, RefusesAt};
-ghost use Rattle.kept_records.specs.Rows.{row_text, rows_text, row_taken, row_at};
+ghost use Rattle.kept_records.specs.Faults.{RefusesAs, RefusesAt, ended};
+ghost use Rattle.kept_records.specs.Rows.{row_codec, rows_text, row_taken};
 ghost use Rattle.kept_records.specs.Books.{row_in, rows_in};
 ghost use Rattle.kept_records.specs.BookLaws.{IsKeptRow, AreKeptRows};
-ghost use Rattle.kept_records.specs.declared.fault.RecordFault.TheVariants.{BadRecord};
 
 use crate::fault::RecordFault;
-use crate::fields::{take_text, take_u16, take_u64};
-use crate::putting::{put_text, put_u16, put_u64};
+use crate::texts::{put_text, take_text};
 use crate::versions::judge_version;
+use codec::{put_u16, put_u64, take_u16, take_u64};
 use payer_book::{BookAtRest, Row, RowFault, TxnId};
 use std::alloc::{AllocError, Global};
 
@@ -26,9 +25,9 @@ struct RowText<'a> {
 }
 
 /// The row at the front and what follows it; none where it is cut off.
-#[tactic(auto, unfolding(crate::specs::Rows::row_at))]
+#[tactic(auto, unfolding(crate::specs::Rows::row_codec))]
 fn take_row(bytes: &[u8]) -> Option<(RowText<'_>, &[u8])>
-    ensures { option_map (λ taken. (row_taken taken.0, taken.1.now)) result ≡ row_at bytes.now }
+    ensures { option_map (λ taken. (row_taken taken.0, taken.1.now)) result ≡ row_codec.at bytes.now }
 {
     let (pharmacy, rest) = take_u16(bytes)?;
     let (number, rest) = take_u64(rest)?;
@@ -104,8 +103,9 @@ pub(crate) fn read_rows(
 }
 
 /// The book, where nothing follows its last row.
+#[tactic(auto, unfolding(crate::specs::Faults::ended))]
 fn ended(total: usize, book: BookAtRest, rest: &[u8]) -> Result<BookAtRest, RecordFault>
-    ensures { result ≡ when_or (BadRecord (total - length rest.now)) (length rest.now == 0) book }
+    ensures { result ≡ ended total (book, rest.now) }
 {
     if rest.is_empty() {
         Ok(book)
@@ -126,8 +126,9 @@ pub(crate) fn put_rows(out: &mut Vec<u8>, rows: &[Row]) -> Result<(), AllocError
 }
 
 /// Puts a row.
+#[tactic(auto, unfolding(crate::specs::Rows::row_codec))]
 fn put_row(out: &mut Vec<u8>, row: &Row) -> Result<(), AllocError>
-    ensures text { OnOk result (out.new.items ≡ out.old.items ++ row_text (kept_row row.now)) }
+    ensures text { OnOk result (out.new.items ≡ out.old.items ++ row_codec.text (kept_row row.now)) }
     ensures kept { OnOk result (IsKeptRow (kept_row row.now)) }
 {
     let id = row.id();

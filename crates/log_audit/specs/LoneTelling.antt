@@ -1,4 +1,4 @@
--- What is told of logs one by one, in each form: nothing is judged of other nodes.
+-- What is told of logs one by one, in each form.
 use Rattle.std.specs.Prelude.{ℕ, Bool, cond, List, [], ◌∷◌, ◌++◌, length, codes, Result, Ok, Err}
 use Rattle.std.specs.List.{flat_map, list_all, list_any}
 use Rattle.claim_model.specs.Context.{Context}
@@ -21,9 +21,9 @@ use Rattle.log_audit.specs.declared.tables.table.Table.TheVariants.{Open}
 abbrev pub lone_text : Context → ℕ → Lone → List ℕ
 lone_text ctx pharmacies lone = log_line lone.log lone.torn ++ (before_text lone ++ came_text ctx pharmacies lone.log lone.came)
 
--- the lines of logs one by one; the last says what is not judged
-unfoldable pub lone_lines : Context → ℕ → List Lone → List ℕ
-lone_lines ctx pharmacies lones = flat_map (lone_text ctx pharmacies) lones ++ codes "nothing is judged of other nodes\n"
+-- the lines of logs one by one, and what is said last
+unfoldable pub lone_lines : Context → ℕ → List Lone → List ℕ → List ℕ
+lone_lines ctx pharmacies lones last = flat_map (lone_text ctx pharmacies) lones ++ last
 
 -- the line that says why a node does not make its log
 abbrev pub came_reasons : Result AnyNode (List ℕ) → List (List ℕ)
@@ -54,13 +54,14 @@ behind_member lones = cond (list_any is_behind lones) (behind_list lones) []
 unfoldable pub lone_object : Context → Bool → List Lone → List ℕ
 lone_object ctx made lones = codes ",\n\"alone\":true" ++ (behind_member lones ++ (codes ",\n\"made\":" ++ (verdict_members ctx made lones ++ codes "\n}\n")))
 
--- what is told of logs that come to this; a table, and changes of plans, only where each node makes its log. A schedule is of a run alone
-abbrev pub lones_text : Context → Audited → Bool → List Lone → Form → List ℕ
-lones_text ctx a made lones Lines = lone_lines ctx (length a.settings.pharmacies.items) lones
-lones_text ctx a made lones Json = logs_member (logs_seen a.logs.items) a.torn.items ++ lone_object ctx made lones
-lones_text ctx a made lones (Csv table) = cond made (table_csv (lone_rows ctx lones) table) []
-lones_text ctx a made lones (Changes of) = cond made (log_changes_csv a.settings of (logs_seen a.logs.items)) []
-lones_text ctx a made lones Schedule = lone_lines ctx (length a.settings.pharmacies.items) lones
+-- what is told of logs that come to this; lines end with what is said last; a table, and changes of plans, only where each node makes its log. A
+-- schedule is of a run alone
+abbrev pub lones_text : Context → Audited → Bool → List Lone → List ℕ → Form → List ℕ
+lones_text ctx a made lones last Lines = lone_lines ctx (length a.settings.pharmacies.items) lones last
+lones_text ctx a made lones last Json = logs_member (logs_seen a.logs.items) a.torn.items ++ lone_object ctx made lones
+lones_text ctx a made lones last (Csv table) = cond made (table_csv (lone_rows ctx lones) table) []
+lones_text ctx a made lones last (Changes of) = cond made (log_changes_csv a.settings of (logs_seen a.logs.items)) []
+lones_text ctx a made lones last Schedule = lone_lines ctx (length a.settings.pharmacies.items) lones last
 
 -- what each log comes to by itself
 abbrev pub lones_of : Audited → List Lone
@@ -70,5 +71,5 @@ abbrev pub all_make : List Lone → Bool
 all_make lones = list_all makes lones
 
 -- what is told of logs one by one
-abbrev pub alone_text : Audited → Form → List ℕ
-alone_text a form = lones_text (context_for a.settings) a (all_make (lones_of a)) (lones_of a) form
+abbrev pub alone_text : Audited → List ℕ → Form → List ℕ
+alone_text a last form = lones_text (context_for a.settings) a (all_make (lones_of a)) (lones_of a) last form

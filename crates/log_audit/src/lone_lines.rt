@@ -28,19 +28,20 @@ use pharmacy_journal::EntryView;
 use std::alloc::{AllocError, Global};
 use world_setup::Node;
 
-/// For each log its line, whether its node makes it, and what the node has; and that nothing is judged of others.
+/// For each log its line, whether its node makes it, and what the node has; and what is said last.
 #[tactic(auto, unfolding(crate::specs::LoneTelling::lone_lines))]
 pub(crate) fn lines_of(
     alloc: Global,
     pharmacies: usize,
     lones: &[Lone<'_>],
+    last: &[u8],
 ) -> Result<Vec<u8>, AllocError>
     ensures { (routes : RouteMaps) → IfOk result (λ text.
-        text.items ≡ lone_lines (bytes_with routes) pharmacies (lones_seen lones.now)) }
+        text.items ≡ lone_lines (bytes_with routes) pharmacies (lones_seen lones.now) last.now) }
 {
     let mut out = Vec::new(alloc);
     put_lones(alloc, &mut out, pharmacies, lones)?;
-    out.extend_from_slice(b"nothing is judged of other nodes\n")?;
+    out.extend_from_slice(last)?;
     Ok(out)
 }
 

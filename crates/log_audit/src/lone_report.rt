@@ -1,4 +1,4 @@
-//! What is told of logs one by one, with nothing judged of other nodes.
+//! What is told of logs one by one.
 
 ghost use Rattle.std.specs.Prelude.{◌≡◌, [], cond, IfOk, OnOk};
 ghost use Rattle.std.specs.List.{list_all};
@@ -29,7 +29,7 @@ use std::alloc::{AllocError, Global};
 use world_setup::CheckedSettings;
 
 /// Judges each log by itself, and puts what its node has after it; whether each node makes its own log. The rows of tables go
-/// out as they are made.
+/// out as they are made; lines end with what is to be said last.
 ///
 /// # Errors
 /// `OutOfMemory`.
@@ -37,17 +37,18 @@ pub fn put_alone<K: TextSink + Drop>(
     alloc: Global,
     audited: &Audited,
     form: Form,
+    last: &[u8],
     out: &mut Outgoing<K>,
 ) -> Result<bool, AuditFault>
     // Whether each node makes its log: it accepts each call from what the log begins with, and sends with it each byte that the
     // log has.
     ensures made { IfOk result (λ made. made ≡ all_make (lones_of audited.now)) }
     // What is put is told of these logs, each by itself, and of what their nodes have then.
-    ensures text { OnOk result (Puts out.old out.new (alone_text audited.now form)) }
+    ensures text { OnOk result (Puts out.old out.new (alone_text audited.now last.now form)) }
 {
     let lones = lones_of(alloc, audited)?;
     let made = all_made(lones.as_slice());
-    match put_lones_text(alloc, audited, lones.as_slice(), made, form, out) {
+    match put_lones_text(alloc, audited, lones.as_slice(), made, form, last, out) {
         Ok(()) => Ok(made),
         Err(_) => Err(AuditFault::OutOfMemory),
     }
@@ -136,16 +137,18 @@ fn put_lones_text<K: TextSink + Drop>(
     lones: &[Lone<'_>],
     made: bool,
     form: Form,
+    last: &[u8],
     out: &mut Outgoing<K>,
 ) -> Result<(), AllocError>
     ensures { TellsText out.old out.new
-        (λ ctx. lones_text ctx audited.now made (lones_seen lones.now) form) result }
+        (λ ctx. lones_text ctx audited.now made (lones_seen lones.now) last.now form) result }
 {
     match form {
         Form::Lines => put_lines_of(
             alloc,
             audited.settings.settings().pharmacies.len(),
             lones,
+            last,
             out,
         ),
         Form::Json => put_object(alloc, out, audited, lones, made),
@@ -155,6 +158,7 @@ fn put_lones_text<K: TextSink + Drop>(
             alloc,
             audited.settings.settings().pharmacies.len(),
             lones,
+            last,
             out,
         ),
     }
@@ -165,11 +169,13 @@ fn put_lines_of<K: TextSink + Drop>(
     alloc: Global,
     pharmacies: usize,
     lones: &[Lone<'_>],
+    last: &[u8],
     out: &mut Outgoing<K>,
 ) -> Result<(), AllocError>
-    ensures { TellsText out.old out.new (λ ctx. lone_lines ctx pharmacies (lones_seen lones.now)) result }
+    ensures { TellsText out.old out.new
+        (λ ctx. lone_lines ctx pharmacies (lones_seen lones.now) last.now) result }
 {
-    let text = lines_of(alloc, pharmacies, lones)?;
+    let text = lines_of(alloc, pharmacies, lones, last)?;
     out.put_text(text.as_slice())
 }
 

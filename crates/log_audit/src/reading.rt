@@ -46,6 +46,13 @@ impl Audited {
         self.logs.as_slice()
     }
 
+    /// What each log begins with, where it goes on after closed ones, in the order of the logs.
+    pub fn rests(&self) -> &[Option<Vec<u8>>]
+        ensures { result.now ≡ self.now.rests.items }
+    {
+        self.rests.as_slice()
+    }
+
     /// The same with one log more, which has no torn end.
     ///
     /// # Errors

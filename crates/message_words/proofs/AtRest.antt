@@ -5,7 +5,7 @@ use Rattle.std.specs.declared.alloc.AllocError.{AllocError}
 use Rattle.std.proofs.lemmas.Bool.{eqb-true}
 use Rattle.std.proofs.lemmas.List.{append_assoc, take_all, drop_all, drop-drop, length-take, length-drop}
 use Rattle.d0_segments.specs.Separators.{plain_length}
-use Rattle.kept_records.specs.Fields.{text_at}
+use Rattle.kept_records.specs.Fields.{text_codec}
 use Rattle.message_words.specs.declared.dissecting.Carried.{Carried}
 use Rattle.message_words.specs.declared.layout.Form.{Form}
 use Rattle.message_words.specs.declared.layout.Form.TheVariants.{Request, Answer}
@@ -122,18 +122,18 @@ sized form c d size before after fits whole place adds carried = λ t.
 
 -- a text after its length
 pub text_there : (form : Form) (c d e : Cut) (bytes : List ℕ) (size : ℕ) (w : Bool) (before after : List Carried)
-    → bytes ≡ left_of c → text_at bytes ≡ Some (take size (drop 4 bytes), drop size (drop 4 bytes)) → left_of d ≡ drop 4 (left_of c)
+    → bytes ≡ left_of c → text_codec.at bytes ≡ Some (take size (drop 4 bytes), drop size (drop 4 bytes)) → left_of d ≡ drop 4 (left_of c)
     → Tells (piece_told (Mark mark.Length) 4) true c d before before → Tells (taken_told form (next_taken d size)) w d e before after
     → Tells (text_told form) w c e before after
 text_there form c d e bytes size w before after is at left p q =
-    let taken : next_taken d size ≡ text_at (left_of c) =
-    ap (λ (bs : List ℕ). Some (take size bs, drop size bs)) (left ∙ ap (drop 4) (sym is)) ∙ sym at ∙ ap text_at is in
-    λ t. (subst (λ (o : Option (List ℕ × List ℕ)). Tells (taken_told form o) w d e before after) taken q) t ∙ p (taken_told form (text_at (left_of c)) t)
+    let taken : next_taken d size ≡ text_codec.at (left_of c) =
+    ap (λ (bs : List ℕ). Some (take size bs, drop size bs)) (left ∙ ap (drop 4) (sym is)) ∙ sym at ∙ ap text_codec.at is in
+    λ t. (subst (λ (o : Option (List ℕ × List ℕ)). Tells (taken_told form o) w d e before after) taken q) t ∙ p (taken_told form (text_codec.at (left_of c)) t)
 
-pub no_text : (form : Form) (c d : Cut) (bytes : List ℕ) (before : List Carried) → bytes ≡ left_of c → text_at bytes ≡ None → Tells (piece_told (Mark mark.Length) 4) true c d before before
+pub no_text : (form : Form) (c d : Cut) (bytes : List ℕ) (before : List Carried) → bytes ≡ left_of c → text_codec.at bytes ≡ None → Tells (piece_told (Mark mark.Length) 4) true c d before before
     → Tells (text_told form) false c d before before
 no_text form c d bytes before is at p = λ t.
-    ap (λ (o : Option (List ℕ × List ℕ)). told_with d before (taken_told form o t d.place (left_of d))) (sym at ∙ ap text_at is) ∙ p (taken_told form (text_at (left_of c)) t)
+    ap (λ (o : Option (List ℕ × List ℕ)). told_with d before (taken_told form o t d.place (left_of d))) (sym at ∙ ap text_codec.at is) ∙ p (taken_told form (text_codec.at (left_of c)) t)
 
 -- there is room for a text after its length
 pub text_fits : (c d : Cut) (bytes : List ℕ) (size : ℕ) → bytes ≡ left_of c → 4 + size ≤ length bytes → c.place + length bytes ≡ length c.whole → d.whole ≡ c.whole → d.place ≡ c.place + min 4 (length (left_of c))

@@ -1,5 +1,5 @@
 -- Records that read well.
-use Rattle.std.proofs.Common.{◌≡◌, ◌<◌, ◌≤◌, ℕ, zero, suc, ◌+◌, ◌-◌, Bool, true, false, ◌&&◌, ◌==◌, List, [], ◌∷◌, length, take, drop, get_or, slice_index, codes, Option, Some, None, Result, Ok, Err, refl, sym, ap, subst, ◌∙◌, arith}
+use Rattle.std.proofs.Common.{◌≡◌, ◌<◌, ◌≤◌, ℕ, zero, suc, ◌+◌, ◌-◌, Bool, true, false, ◌&&◌, ◌==◌, List, [], ◌∷◌, length, take, drop, get_or, slice_index, Option, Some, None, Result, Ok, Err, refl, sym, ap, subst, ◌∙◌, arith}
 use Rattle.std.specs.Prelude.{if◌then◌else◌, nat_lt}
 use Rattle.std.specs.List.{AllByRecursion}
 use Rattle.std.specs.Int.{w16, from_be_bytes, to_be_bytes}
@@ -23,18 +23,18 @@ use Rattle.payer_book.specs.Added as book
 use Rattle.kept_records.specs.declared.fault.RecordFault.{RecordFault}
 use Rattle.kept_records.specs.declared.fault.RecordFault.TheVariants.{Short, Version, BadRecord, NumberOrder, NotABook}
 use Rattle.kept_records.specs.Versions.{is_version, fits_version}
-use Rattle.kept_records.specs.Faults.{◌>>=◌, some_or, when_or}
-use Rattle.kept_records.specs.Entries.{entry_at}
-use Rattle.kept_records.specs.Heads.{HeadParts, head_at}
+use Rattle.kept_records.specs.Faults.{◌>>=◌, some_or, when_or, each_in}
+use Rattle.kept_records.specs.Entries.{entry_codec}
+use Rattle.kept_records.specs.Heads.{journal_name, journal_head_codec, book_name, book_head_codec}
 use Rattle.kept_records.specs.Books.{book_head_in, book_in, has_terms, is_head_of, is_id, row_in, rows_in}
-use Rattle.kept_records.specs.Plans.{is_next, listed, products_in}
-use Rattle.kept_records.specs.Products.{product_at}
-use Rattle.kept_records.specs.Rows.{book_name, row_at}
-use Rattle.kept_records.specs.Rows as kept
+use Rattle.kept_records.specs.Plans.{is_next, listed}
+use Rattle.kept_records.specs.Products.{product_codec}
+use Rattle.kept_records.specs.Rows.{row_codec}
 use Rattle.std.specs.Result.{result_ok}
 use Rattle.plan_rules.specs.Terms.{Terms, repriced}
 use Rattle.payer_book.specs.Added.{KeptRow}
-use Rattle.kept_records.specs.Journals.{empty_journal, entries_in, entry_in, finished, head_in, journal_in}
+use Rattle.kept_records.specs.Journals.{empty_journal, entries_in, entry_in, head_in, journal_in}
+use Rattle.kept_records.proofs.Loops.{all_read}
 use Rattle.message_words.specs.AtRest.{Telling, book_rows, book_told, count_at, each_told, entry_told, is_book, journal_rows, journal_told, product_told, record_told, row_told, stray_told}
 use Rattle.message_words.specs.declared.layout.Form.TheVariants.{Request, Answer}
 use Rattle.message_words.specs.Steps.{head_parts}
@@ -89,7 +89,7 @@ asks s text own = by_fault (framing_fault request_kind text) refl
     by_fault (Some fault) e = absurd (false≢true (sym (ap (is_own_header s) (fault_refuses text fault e)) ∙ own))
 
 said_nothing : (text : List ℕ) (fault : FramingFault) → framing_fault response_kind text ≡ Some fault → answer_in (answer_of text) ≡ None
-said_nothing text fault e = ap answer_in (framing_fails text fault e)
+said_nothing text fault e = ap answer_in (framing_fails _ text fault e)
 
 fits_nothing : (h : Option RequestHeader) → fits h None ≡ false
 fits_nothing None = refl
@@ -114,6 +114,17 @@ row_so j longer request answer e = by_test (is_row j request answer) _ e
     by_test true k e = refl
     by_test false k e = absurd cc
 
+-- ---- records that are read one after the other
+
+each_so : {S : Type 0} (one : ℕ → S → List ℕ → Result (S × List ℕ) RecordFault) (told : Telling → Telling)
+    → ((place : ℕ) (s : S) (bytes : List ℕ) (next : S × List ℕ) (behind : Telling) (at : ℕ) → one place s bytes ≡ Ok next → ((p : ℕ) → Clean (behind p next.1)) → Clean (told behind at bytes))
+    → (total left : ℕ) (s : S) (bytes : List ℕ) (next : S × List ℕ) (behind : Telling) → each_in one total left s bytes ≡ Ok next → ((p : ℕ) → Clean (behind p next.1)) → (p : ℕ) → Clean (each_told told left behind p bytes)
+unfolding each_in each_told
+each_so one told so total zero s bytes next behind e clean p = subst (λ (n : _ × List ℕ). Clean (behind p n.1)) (sym (ok_is (s, bytes) next e)) (clean p)
+each_so one told so total (suc left) s bytes next behind e clean p =
+    let first = well (one (total - length bytes) s bytes) _ next e in
+    so (total - length bytes) s bytes first.value (each_told told left behind) p first.is (each_so one told so total left first.value.0 first.value.1 next behind first.goes_on clean)
+
 -- ---- journals
 
 entry_so : (version place : ℕ) (j : JournalAtRest) (bytes : List ℕ) (next : JournalAtRest × List ℕ) (behind : Telling) (at : ℕ) → entry_in version place j bytes ≡ Ok next
@@ -122,25 +133,18 @@ unfolding entry_in
 entry_so version place j bytes next behind at e clean =
     let entry = well _ _ next e in
     let longer = well _ _ next entry.goes_on in
-    let fitting = well (when_or (BadRecord place) (fits_version version entry.value.request) longer.value)
-    (λ f. when_or (NumberOrder place) (entry.value.number == length j.entries + 1) (f, entry.value.rest)) next longer.goes_on in
-    let there : entry_at bytes ≡ Some entry.value = given (BadRecord place) (entry_at bytes) entry.value entry.is in
-    let row : is_row j entry.value.request entry.value.answer ≡ true = row_so j longer.value entry.value.request entry.value.answer (given (BadRecord place) (added j entry.value.request entry.value.answer) longer.value longer.is) in
-    let kept : (is_own_request j.settings entry.value.request && is_kept_answer entry.value.request entry.value.answer) ≡ true = right_true (nat_lt (length j.entries) j.settings.cap) _ row in
-    let whole : (fitting.value, entry.value.rest) ≡ next = same_value (NumberOrder place) (entry.value.number == length j.entries + 1) (fitting.value, entry.value.rest) next fitting.goes_on in
-    entry_clean behind at bytes entry.value there (asks j.settings entry.value.request (left_true _ _ kept)) (answers entry.value.request entry.value.answer (right_true (is_own_request j.settings entry.value.request) _ kept))
+    let fitting = well (when_or (BadRecord place) (fits_version version entry.value.0.1.request) longer.value)
+    (λ f. when_or (NumberOrder place) (entry.value.0.0 == length j.entries + 1) (f, entry.value.1)) next longer.goes_on in
+    let there : entry_codec.at bytes ≡ Some entry.value = given (BadRecord place) (entry_codec.at bytes) entry.value entry.is in
+    let row : is_row j entry.value.0.1.request entry.value.0.1.answer ≡ true = row_so j longer.value entry.value.0.1.request entry.value.0.1.answer (given (BadRecord place) (added j entry.value.0.1.request entry.value.0.1.answer) longer.value longer.is) in
+    let kept : (is_own_request j.settings entry.value.0.1.request && is_kept_answer entry.value.0.1.request entry.value.0.1.answer) ≡ true = right_true (nat_lt (length j.entries) j.settings.cap) _ row in
+    let whole : (fitting.value, entry.value.1) ≡ next = same_value (NumberOrder place) (entry.value.0.0 == length j.entries + 1) (fitting.value, entry.value.1) next fitting.goes_on in
+    entry_clean behind at bytes entry.value there (asks j.settings entry.value.0.1.request (left_true _ _ kept)) (answers entry.value.0.1.request entry.value.0.1.answer (right_true (is_own_request j.settings entry.value.0.1.request) _ kept))
     (subst (λ (n : JournalAtRest × List ℕ). (p : ℕ) → Clean (behind p n.1)) (sym whole) clean)
 
-none_left : (fault : RecordFault) (bytes : List ℕ) (j k : JournalAtRest) (p : ℕ) → when_or fault (length bytes == 0) j ≡ Ok k → Clean (stray_told p bytes)
-none_left fault [] j k p e = tt
-none_left fault (b ∷ bs) j k p e = absurd (omega (arith, eqb-true (length (b ∷ bs)) 0 (held fault (length (b ∷ bs) == 0) j k e)))
-
 entries_so : (version total left : ℕ) (j k : JournalAtRest) (bytes : List ℕ) → entries_in version total left j bytes ≡ Ok k → (p : ℕ) → Clean (each_told entry_told left stray_told p bytes)
-unfolding entries_in finished each_told
-entries_so version total zero j k bytes e p = none_left _ bytes j k p e
-entries_so version total (suc left) j k bytes e p =
-    let next = well _ _ k e in
-    entry_so version (total - length bytes) j bytes next.value (each_told entry_told left stray_told) p next.is (entries_so version total left next.value.0 k next.value.1 next.goes_on)
+unfolding entries_in
+entries_so version total left j k bytes e = each_so (entry_in version) entry_told (entry_so version) total left j bytes (k, []) stray_told (all_read total (each_in (entry_in version) total left j bytes) k e) (λ p. tt)
 
 head_clean : (place : ℕ) (bytes : List ℕ) → ((p : ℕ) → Clean (each_told entry_told (count_at 5 bytes) stray_told p (drop 9 bytes))) → Clean (journal_told place bytes)
 unfolding journal_told journal_rows
@@ -148,7 +152,7 @@ head_clean place bytes rest =
     both (head_parts journal_rows place bytes) _ (head_stands journal_rows place bytes (refl, (refl, (refl, (refl, tt))))) (rest (place + length (take 9 bytes)))
 
 -- what begins as a journal is no book
-no_book : (bytes : List ℕ) → (from_be_bytes w16 (take 2 bytes) == from_be_bytes w16 (codes "PJ")) ≡ true → is_book bytes ≡ false
+no_book : (bytes : List ℕ) → (from_be_bytes w16 (take 2 bytes) == journal_name) ≡ true → is_book bytes ≡ false
 no_book [] e = refl
 no_book (a ∷ []) e = refl
 no_book (a ∷ b ∷ rest) e = by_test (is_book (a ∷ b ∷ rest)) refl
@@ -158,7 +162,7 @@ no_book (a ∷ b ∷ rest) e = by_test (is_book (a ∷ b ∷ rest)) refl
     by_test true is =
         let first : a ≡ 80 = eqb-true a 80 (left_true (a == 80) (b == 66) is) in
         let second : b ≡ 66 = eqb-true b 66 (right_true (a == 80) (b == 66) is) in
-        absurd (false≢true ((λ i. from_be_bytes w16 (sym first i ∷ sym second i ∷ []) == from_be_bytes w16 (codes "PJ")) ∙ e))
+        absurd (false≢true ((λ i. from_be_bytes w16 (sym first i ∷ sym second i ∷ []) == journal_name) ∙ e))
 
 pub journal_stands : (number : ℕ) (settings : PharmacySettings) (bytes : List ℕ) (j : JournalAtRest) → journal_in number settings bytes ≡ Ok j → AllByRecursion Stands (record_told 0 bytes).parts
 unfolding journal_in head_in record_told
@@ -166,19 +170,19 @@ journal_stands number settings bytes j e =
     let opened = well _ _ j e in
     let head = well _ _ opened.value opened.is in
     let own = well _ _ opened.value head.goes_on in
-    let there : head_at bytes ≡ Some head.value = given Short (head_at bytes) head.value head.is in
-    let has : HasJournalHead bytes head.value = journal_head bytes head.value there in
-    let test : Bool = head.value.mark == from_be_bytes w16 (codes "PJ") && head.value.number == number in
+    let there : journal_head_codec.at bytes ≡ Some head.value = given Short (journal_head_codec.at bytes) head.value head.is in
+    let has : HasJournalHead bytes head.value.0.mark head.value.0.count head.value.1 = journal_head bytes head.value there in
+    let test : Bool = head.value.0.mark == journal_name && head.value.0.number == number in
     let first : head.value ≡ own.value = same_value NotABook test head.value own.value own.is in
-    let same : head.value ≡ opened.value = first ∙ same_value Version (is_version head.value.version) own.value opened.value own.goes_on in
-    let marks : (head.value.mark == from_be_bytes w16 (codes "PJ")) ≡ true = left_true (head.value.mark == from_be_bytes w16 (codes "PJ")) (head.value.number == number) (held NotABook test head.value own.value own.is) in
-    let plain : is_book bytes ≡ false = no_book bytes (ap (λ n. n == from_be_bytes w16 (codes "PJ")) (sym has.mark) ∙ marks) in
-    let read : entries_in head.value.version (length bytes) head.value.count (empty_journal number settings) head.value.rest ≡ Ok j =
-    ap (λ (h : HeadParts). entries_in h.version (length bytes) h.count (empty_journal number settings) h.rest) same ∙ opened.goes_on in
+    let same : head.value ≡ opened.value = first ∙ same_value Version (is_version head.value.0.version) own.value opened.value own.goes_on in
+    let marks : (head.value.0.mark == journal_name) ≡ true = left_true (head.value.0.mark == journal_name) (head.value.0.number == number) (held NotABook test head.value own.value own.is) in
+    let plain : is_book bytes ≡ false = no_book bytes (ap (λ n. n == journal_name) (sym has.mark_is) ∙ marks) in
+    let read : entries_in head.value.0.version (length bytes) head.value.0.count (empty_journal number settings) head.value.1 ≡ Ok j =
+    ap (λ h. entries_in h.0.version (length bytes) h.0.count (empty_journal number settings) h.1) same ∙ opened.goes_on in
     let rest : (p : ℕ) → Clean (each_told entry_told (count_at 5 bytes) stray_told p (drop 9 bytes)) =
-    λ p. subst (λ n. Clean (each_told entry_told n stray_told p (drop 9 bytes))) has.count
-    (subst (λ (bs : List ℕ). Clean (each_told entry_told head.value.count stray_told p bs)) has.rest
-    (entries_so head.value.version (length bytes) head.value.count (empty_journal number settings) j head.value.rest read p)) in
+    λ p. subst (λ n. Clean (each_told entry_told n stray_told p (drop 9 bytes))) has.count_is
+    (subst (λ (bs : List ℕ). Clean (each_told entry_told head.value.0.count stray_told p bs)) has.rest
+    (entries_so head.value.0.version (length bytes) head.value.0.count (empty_journal number settings) j head.value.1 read p)) in
     subst (λ t. Clean (if t then book_told 0 bytes else journal_told 0 bytes)) (sym plain) (head_clean 0 bytes rest)
 
 -- ---- books
@@ -224,25 +228,18 @@ row_reads version place b bytes next behind at e clean =
     let named = well _ _ next row.goes_on in
     let fitting = well _ _ next named.goes_on in
     let new = well _ _ next fitting.goes_on in
-    let there : row_at bytes ≡ Some row.value = given (BadRecord place) (row_at bytes) row.value row.is in
+    let there : row_codec.at bytes ≡ Some row.value = given (BadRecord place) (row_codec.at bytes) row.value row.is in
     let same : row.value ≡ fitting.value = same_value (BadRecord place) (is_id row.value.0.id) row.value named.value named.is
     ∙ same_value (BadRecord place) (fits_version version row.value.0.request) named.value fitting.value fitting.is in
-    let at_front : row_at bytes ≡ Some fitting.value = there ∙ ap Some same in
+    let at_front : row_codec.at bytes ≡ Some fitting.value = there ∙ ap Some same in
     let added : book.added b fitting.value.0.id fitting.value.0.request fitting.value.0.answer ≡ Some new.value = given (BadRecord place) (book.added b fitting.value.0.id fitting.value.0.request fitting.value.0.answer) new.value new.is in
     let whole : (new.value, fitting.value.1) ≡ next = ok_is _ next new.goes_on in
     row_clean behind at bytes fitting.value at_front (asks_so b new.value fitting.value.0.id fitting.value.0.request fitting.value.0.answer added)
     (answers_so b new.value fitting.value.0.id fitting.value.0.request fitting.value.0.answer added) (subst (λ (n : Book × List ℕ). (p : ℕ) → Clean (behind p n.1)) (sym whole) clean)
 
-no_row_left : (fault : RecordFault) (bytes : List ℕ) (b c : Book) (p : ℕ) → when_or fault (length bytes == 0) b ≡ Ok c → Clean (stray_told p bytes)
-no_row_left fault [] b c p e = tt
-no_row_left fault (x ∷ xs) b c p e = absurd (omega (arith, eqb-true (length (x ∷ xs)) 0 (held fault (length (x ∷ xs) == 0) b c e)))
-
 rows_so : (version total left : ℕ) (b c : Book) (bytes : List ℕ) → rows_in version total left b bytes ≡ Ok c → (p : ℕ) → Clean (each_told row_told left stray_told p bytes)
-unfolding rows_in each_told
-rows_so version total zero b c bytes e p = no_row_left _ bytes b c p e
-rows_so version total (suc left) b c bytes e p =
-    let next = well _ _ c e in
-    row_reads version (total - length bytes) b bytes next.value (each_told row_told left stray_told) p next.is (rows_so version total left next.value.0 c next.value.1 next.goes_on)
+unfolding rows_in
+rows_so version total left b c bytes e = each_so (row_in version) row_told (row_reads version) total left b bytes (c, []) stray_told (all_read total (each_in (row_in version) total left b bytes) c e) (λ p. tt)
 
 product_so : (place : ℕ) (plan : Terms) (bytes : List ℕ) (next : Terms × List ℕ) (behind : Telling) (at : ℕ) → listed place plan bytes ≡ Ok next
     → ((p : ℕ) → Clean (behind p next.1)) → Clean (product_told behind at bytes)
@@ -251,18 +248,10 @@ product_so place plan bytes next behind at e clean =
     let product = well _ _ next e in
     let later = well _ _ next product.goes_on in
     let new = well (some_or (BadRecord place) (result_ok (repriced plan later.value.0.0 later.value.0.1))) (λ n. Ok (n, later.value.1)) next later.goes_on in
-    let there : product_at bytes ≡ Some product.value = given (BadRecord place) (product_at bytes) product.value product.is in
+    let there : product_codec.at bytes ≡ Some product.value = given (BadRecord place) (product_codec.at bytes) product.value product.is in
     let same : product.value ≡ later.value = same_value (BadRecord place) (is_next plan.prices product.value.0.0) product.value later.value later.is in
     let whole : (new.value, later.value.1) ≡ next = ok_is _ next new.goes_on in
     product_clean behind at bytes later.value (there ∙ ap Some same) (subst (λ (n : Terms × List ℕ). (p : ℕ) → Clean (behind p n.1)) (sym whole) clean)
-
-products_so : (total left : ℕ) (plan : Terms) (bytes : List ℕ) (next : Terms × List ℕ) (behind : Telling) → products_in total left plan bytes ≡ Ok next
-    → ((p : ℕ) → Clean (behind p next.1)) → (p : ℕ) → Clean (each_told product_told left behind p bytes)
-unfolding products_in each_told
-products_so total zero plan bytes next behind e clean p = subst (λ (n : Terms × List ℕ). Clean (behind p n.1)) (sym (ok_is (plan, bytes) next e)) (clean p)
-products_so total (suc left) plan bytes next behind e clean p =
-    let one = well _ _ next e in
-    product_so (total - length bytes) plan bytes one.value (each_told product_told left behind) p one.is (products_so total left one.value.0 one.value.1 next behind one.goes_on clean)
 
 -- two bytes that spell the name of a book
 is_book_so : (bytes : List ℕ) → ((i : ℕ) → slice_index bytes i < 256) → 2 ≤ length bytes → from_be_bytes w16 (take 2 bytes) ≡ book_name → is_book bytes ≡ true
@@ -294,7 +283,7 @@ book_stands payer settings bytes b small e =
     let head = well _ _ opened.value opened.is in
     let own = well _ _ opened.value head.goes_on in
     let known = well _ _ opened.value own.goes_on in
-    let there : kept.head_at bytes ≡ Some head.value = given Short (kept.head_at bytes) head.value head.is in
+    let there : book_head_codec.at bytes ≡ Some head.value = given Short (book_head_codec.at bytes) head.value head.is in
     let has : HasBookHead bytes head.value.0.name head.value.0.products head.value.0.rows head.value.1 = book_head bytes head.value there in
     let same : head.value ≡ opened.value =
     same_value NotABook (is_head_of payer settings.serial head.value.0) head.value own.value own.is ∙ same_value Version (is_version head.value.0.version) own.value known.value known.is
@@ -303,7 +292,7 @@ book_stands payer settings bytes b small e =
     let name : from_be_bytes w16 (take 2 bytes) ≡ book_name = sym has.name_is ∙ eqb-true head.value.0.name book_name names in
     let is : is_book bytes ≡ true = is_book_so bytes small has.long name in
     let read : (p : ℕ) → Clean (each_told product_told opened.value.0.products (each_told row_told opened.value.0.rows stray_told) p opened.value.1) =
-    products_so (length bytes) opened.value.0.products _ opened.value.1 planned.value (each_told row_told opened.value.0.rows stray_told) planned.is
+    each_so listed product_told product_so (length bytes) opened.value.0.products _ opened.value.1 planned.value (each_told row_told opened.value.0.rows stray_told) planned.is
     (rows_so opened.value.0.version (length bytes) opened.value.0.rows _ b planned.value.1 planned.goes_on) in
     let read_so : (p : ℕ) → Clean (each_told product_told head.value.0.products (each_told row_told head.value.0.rows stray_told) p head.value.1) =
     subst (λ h. (p : ℕ) → Clean (each_told product_told h.0.products (each_told row_told h.0.rows stray_told) p h.1)) (sym same) read in

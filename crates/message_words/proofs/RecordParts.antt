@@ -1,19 +1,22 @@
 -- Pieces of records of which no part is out of place.
-use Rattle.std.proofs.Common.{◌≡◌, ◌≤◌, ℕ, zero, suc, ◌+◌, Bool, true, false, ◌==◌, List, [], ◌∷◌, length, take, drop, nat_lt, Option, Some, None, refl, sym, ap, subst, ◌∙◌, arith}
-use Rattle.std.specs.Prelude.{option_map, if◌then◌else◌}
+use Rattle.std.proofs.Common.{◌≡◌, ◌≤◌, ℕ, zero, suc, ◌+◌, Bool, true, false, List, [], ◌∷◌, length, take, drop, nat_lt, Option, Some, None, refl, sym, ap, subst, ◌∙◌, arith}
+use Rattle.std.specs.Prelude.{if◌then◌else◌}
 use Rattle.std.specs.List.{AllByRecursion}
 use Rattle.std.specs.Int.{w16, from_be_bytes}
 use Rattle.std.proofs.lemmas.List.{length-drop, drop-drop}
 use Rattle.d0_segments.specs.Framing.{framing_fault, request_kind, response_kind}
-use Rattle.kept_records.specs.Fields.{u8_at, u16_at, u32_at, u64_at, text_at}
-use Rattle.kept_records.specs.Entries.{EntryParts, answer_at, entry_at, flagged_answer}
-use Rattle.kept_records.specs.Options.{◌>>=◌}
-use Rattle.kept_records.specs.Products.{bytes_at, product_at}
-use Rattle.kept_records.specs.Heads.{HeadParts}
-use Rattle.kept_records.specs.Heads as journal
-use Rattle.kept_records.specs.Rows.{row_at}
-use Rattle.kept_records.specs.Rows as book
+use Rattle.codec.specs.Options.{◌>>=◌}
+use Rattle.codec.specs.Fields.{bytes_at, u8_at, u16_at, u32_at, u64_at}
+use Rattle.codec.specs.Codecs.{u8, u16, u32, u64, sized, both as pair}
+use Rattle.codec.proofs.CodecLaws.{both_parts, made_parts}
+use Rattle.claim_model.specs.Journal.{Kept}
 use Rattle.payer_book.specs.Added.{KeptRow}
+use Rattle.kept_records.specs.Fields.{text_codec}
+use Rattle.kept_records.specs.Versions.{version_codec}
+use Rattle.kept_records.specs.Heads.{journal_head_codec, identity_codec, counts_codec, book_head_codec}
+use Rattle.kept_records.specs.Products.{product_codec}
+use Rattle.kept_records.specs.Rows.{row_codec}
+use Rattle.kept_records.specs.Entries.{answer_of, answer_codec, kept_codec, entry_codec}
 use Rattle.message_words.specs.declared.layout.Form.{Form}
 use Rattle.message_words.specs.declared.layout.Form.TheVariants.{Request, Answer}
 use Rattle.message_words.specs.declared.layout.Within.{Within}
@@ -109,10 +112,10 @@ parts_clean : (form : Form) (place : ℕ) (text : List ℕ) → IsFaultless form
 parts_clean Request place text e = request place text (transmission_parts Request place text) e (are_transmission Request place text)
 parts_clean Answer place text e = answer place text (transmission_parts Answer place text) e (are_transmission Answer place text)
 
-pub text_clean : (form : Form) (behind : Telling) (place : ℕ) (bytes : List ℕ) (taken : List ℕ × List ℕ) → text_at bytes ≡ Some taken → IsFaultless form taken.0
+pub text_clean : (form : Form) (behind : Telling) (place : ℕ) (bytes : List ℕ) (taken : List ℕ × List ℕ) → text_codec.at bytes ≡ Some taken → IsFaultless form taken.0
     → ((p : ℕ) → Clean (behind p taken.1)) → Clean (text_told form behind place bytes)
 text_clean form behind place bytes taken e framed rest =
-    piece_clean (part.Mark mark.Length) 4 (taken_told form (text_at bytes) behind) place bytes refl
+    piece_clean (part.Mark mark.Length) 4 (taken_told form (text_codec.at bytes) behind) place bytes refl
     (λ p. subst (λ (o : Option (List ℕ × List ℕ)). Clean (taken_told form o behind p (drop 4 bytes))) (sym e)
     (both (transmission_parts form p taken.0) (behind (p + length taken.0) taken.1).parts (parts_clean form p taken.0 framed) (rest (p + length taken.0))))
 
@@ -123,67 +126,56 @@ IsFaultlessAnswer None = Unit {0}
 IsFaultlessAnswer (Some text) = IsFaultless Answer text
 
 -- the flag decides
-flagged : (flag : ℕ) (rest : List ℕ) (behind : Telling) (taken : Option (List ℕ) × List ℕ) (none one : Bool) → (flag == 0) ≡ none → (flag == 1) ≡ one
-    → (if none then Some (None, rest) else if one then option_map (λ (a : List ℕ × List ℕ). (Some a.0, a.1)) (text_at rest) else None) ≡ Some taken
-    → IsFaultlessAnswer taken.0 → ((p : ℕ) → Clean (behind p taken.1)) → (p : ℕ)
-    → Clean (if none then behind p rest else (if one then text_told Answer behind p rest else record { parts = filled_part part.Stray p rest; carried = [] }))
-flagged flag rest behind taken true one z o e framed clean p = subst (λ (t : Option (List ℕ) × List ℕ). Clean (behind p t.1)) (sym (some_is (None, rest) taken e)) (clean p)
-flagged flag rest behind taken false false z o e framed clean p = absurd cc
-flagged flag rest behind taken false true z o e framed clean p = by_text (text_at rest) refl e
-  where
-    by_text : (t : Option (List ℕ × List ℕ)) → text_at rest ≡ t → option_map (λ (a : List ℕ × List ℕ). (Some a.0, a.1)) t ≡ Some taken → Clean (text_told Answer behind p rest)
-    by_text None is e = absurd cc
-    by_text (Some a) is e =
-        let same : (Some a.0, a.1) ≡ taken = some_is (Some a.0, a.1) taken e in
-        text_clean Answer behind p rest a is (subst (λ (t : Option (List ℕ) × List ℕ). IsFaultlessAnswer t.0) (sym same) framed)
-        (subst (λ (t : Option (List ℕ) × List ℕ). (p : ℕ) → Clean (behind p t.1)) (sym same) clean)
+flagged : (flag : ℕ) (rest : List ℕ) (behind : Telling) (taken : Option (List ℕ) × List ℕ) → answer_of flag rest ≡ Some taken → IsFaultlessAnswer taken.0 → ((p : ℕ) → Clean (behind p taken.1)) → (p : ℕ)
+    → Clean (flagged_told (flag ∷ []) behind p rest)
+flagged zero rest behind taken e framed clean p = subst (λ (t : Option (List ℕ) × List ℕ). Clean (behind p t.1)) (sym (some_is (None, rest) taken e)) (clean p)
+flagged (suc zero) rest behind taken e framed clean p =
+    let said = made_parts text_codec Some rest taken.0 taken.1 e in
+    text_clean Answer behind p rest (said.0, taken.1) said.1 (subst IsFaultlessAnswer (sym said.2) framed) clean
+flagged (suc (suc flag)) rest behind taken e framed clean p = absurd cc
 
-answer_clean : (behind : Telling) (place : ℕ) (bytes : List ℕ) (taken : Option (List ℕ) × List ℕ) → answer_at bytes ≡ Some taken → IsFaultlessAnswer taken.0
+answer_clean : (behind : Telling) (place : ℕ) (bytes : List ℕ) (taken : Option (List ℕ) × List ℕ) → answer_codec.at bytes ≡ Some taken → IsFaultlessAnswer taken.0
     → ((p : ℕ) → Clean (behind p taken.1)) → Clean (flag_told behind place bytes)
-unfolding answer_at
+unfolding answer_codec
 answer_clean behind place bytes taken e framed clean =
-    let flag = there (u8_at bytes) (λ flag. flagged_answer flag.0 flag.1) taken e in
+    let flag = there (u8_at bytes) (λ flag. answer_of flag.0 flag.1) taken e in
     let are : bytes ≡ flag.value.0 ∷ flag.value.1 = one_byte bytes flag.value flag.is in
     subst (λ (bs : List ℕ). Clean (flag_told behind place bs)) (sym are)
     (piece_clean (part.Mark mark.AnswerFlag) 1 (flagged_told (flag.value.0 ∷ []) behind) place (flag.value.0 ∷ flag.value.1) refl
-    (λ p. flagged flag.value.0 flag.value.1 behind taken (flag.value.0 == 0) (flag.value.0 == 1) refl refl flag.goes_on framed clean p))
+    (λ p. flagged flag.value.0 flag.value.1 behind taken flag.goes_on framed clean p))
 
-pub entry_clean : (behind : Telling) (place : ℕ) (bytes : List ℕ) (entry : EntryParts) → entry_at bytes ≡ Some entry → IsFaultless Request entry.request → IsFaultlessAnswer entry.answer
-    → ((p : ℕ) → Clean (behind p entry.rest)) → Clean (entry_told behind place bytes)
-unfolding entry_at entry_told
+pub entry_clean : (behind : Telling) (place : ℕ) (bytes : List ℕ) (entry : (ℕ × Kept) × List ℕ) → entry_codec.at bytes ≡ Some entry → IsFaultless Request entry.0.1.request → IsFaultlessAnswer entry.0.1.answer
+    → ((p : ℕ) → Clean (behind p entry.1)) → Clean (entry_told behind place bytes)
+unfolding entry_codec entry_told
 entry_clean behind place bytes entry e asks answers clean =
-    let number = there (u64_at bytes) _ entry e in
-    let asked = there (text_at number.value.1) _ entry number.goes_on in
-    let said = there (answer_at asked.value.1) _ entry asked.goes_on in
-    let whole : record { number = number.value.0; request = asked.value.0; answer = said.value.0; rest = said.value.1 } ≡ entry = some_is _ entry said.goes_on in
-    let left : number.value.1 ≡ drop 8 bytes = after_8 bytes number.value number.is in
-    let asks_so : IsFaultless Request asked.value.0 = subst (λ (x : EntryParts). IsFaultless Request x.request) (sym whole) asks in
-    let answers_so : IsFaultlessAnswer said.value.0 = subst (λ (x : EntryParts). IsFaultlessAnswer x.answer) (sym whole) answers in
-    let clean_so : (p : ℕ) → Clean (behind p said.value.1) = subst (λ (x : EntryParts). (p : ℕ) → Clean (behind p x.rest)) (sym whole) clean in
+    let number = both_parts u64 kept_codec bytes entry.0 entry.1 e in
+    let kept = made_parts (pair text_codec answer_codec) _ number.0 entry.0.1 entry.1 number.2 in
+    let texts = both_parts text_codec answer_codec number.0 kept.0 entry.1 kept.1 in
+    let left : number.0 ≡ drop 8 bytes = after_8 bytes (entry.0.0, number.0) number.1 in
+    let asks_so : IsFaultless Request kept.0.0 = subst (λ (x : Kept). IsFaultless Request x.request) (sym kept.2) asks in
+    let answers_so : IsFaultlessAnswer kept.0.1 = subst (λ (x : Kept). IsFaultlessAnswer x.answer) (sym kept.2) answers in
     piece_clean (part.Mark mark.Number) 8 (text_told Request (flag_told behind)) place bytes refl
     (λ p. subst (λ (bs : List ℕ). Clean (text_told Request (flag_told behind) p bs)) left
-    (text_clean Request (flag_told behind) p number.value.1 asked.value asked.is asks_so (λ q. answer_clean behind q asked.value.1 said.value said.is answers_so clean_so)))
+    (text_clean Request (flag_told behind) p number.0 (kept.0.0, texts.0) texts.1 asks_so (λ q. answer_clean behind q texts.0 (kept.0.1, entry.1) texts.2 answers_so clean)))
 
 -- ---- a row of a book
 
-pub row_clean : (behind : Telling) (place : ℕ) (bytes : List ℕ) (row : KeptRow × List ℕ) → row_at bytes ≡ Some row → IsFaultless Request row.0.request → IsFaultless Answer row.0.answer
+pub row_clean : (behind : Telling) (place : ℕ) (bytes : List ℕ) (row : KeptRow × List ℕ) → row_codec.at bytes ≡ Some row → IsFaultless Request row.0.request → IsFaultless Answer row.0.answer
     → ((p : ℕ) → Clean (behind p row.1)) → Clean (row_told behind place bytes)
-unfolding row_at row_told
+unfolding row_codec row_told
 row_clean behind place bytes row e asks answers clean =
-    let pharmacy = there (u16_at bytes) _ row e in
-    let number = there (u64_at pharmacy.value.1) _ row pharmacy.goes_on in
-    let asked = there (text_at number.value.1) _ row number.goes_on in
-    let said = there (text_at asked.value.1) _ row asked.goes_on in
-    let whole = some_is _ row said.goes_on in
-    let second : pharmacy.value.1 ≡ drop 2 bytes = after_2 bytes pharmacy.value pharmacy.is in
-    let third : number.value.1 ≡ drop 8 (drop 2 bytes) = after_8 pharmacy.value.1 number.value number.is ∙ ap (drop 8) second in
-    let asks_so : IsFaultless Request asked.value.0 = subst (λ (x : KeptRow × List ℕ). IsFaultless Request x.0.request) (sym whole) asks in
-    let answers_so : IsFaultless Answer said.value.0 = subst (λ (x : KeptRow × List ℕ). IsFaultless Answer x.0.answer) (sym whole) answers in
-    let clean_so : (p : ℕ) → Clean (behind p said.value.1) = subst (λ (x : KeptRow × List ℕ). (p : ℕ) → Clean (behind p x.1)) (sym whole) clean in
+    let made = made_parts (pair (pair u16 u64) (pair text_codec text_codec)) _ bytes row.0 row.1 e in
+    let halves = both_parts (pair u16 u64) (pair text_codec text_codec) bytes made.0 row.1 made.1 in
+    let id = both_parts u16 u64 bytes made.0.0 halves.0 halves.1 in
+    let texts = both_parts text_codec text_codec halves.0 made.0.1 row.1 halves.2 in
+    let second : id.0 ≡ drop 2 bytes = after_2 bytes (made.0.0.0, id.0) id.1 in
+    let third : halves.0 ≡ drop 8 (drop 2 bytes) = after_8 id.0 (made.0.0.1, halves.0) id.2 ∙ ap (drop 8) second in
+    let asks_so : IsFaultless Request made.0.1.0 = subst (λ (x : KeptRow). IsFaultless Request x.request) (sym made.2) asks in
+    let answers_so : IsFaultless Answer made.0.1.1 = subst (λ (x : KeptRow). IsFaultless Answer x.answer) (sym made.2) answers in
     piece_clean (part.Mark mark.Pharmacy) 2 (piece_told (part.Mark mark.Number) 8 (text_told Request (text_told Answer behind))) place bytes refl
     (λ p. piece_clean (part.Mark mark.Number) 8 (text_told Request (text_told Answer behind)) p (drop 2 bytes) refl
     (λ q. subst (λ (bs : List ℕ). Clean (text_told Request (text_told Answer behind) q bs)) third
-    (text_clean Request (text_told Answer behind) q number.value.1 asked.value asked.is asks_so (λ r. text_clean Answer behind r asked.value.1 said.value said.is answers_so clean_so))))
+    (text_clean Request (text_told Answer behind) q halves.0 (made.0.1.0, texts.0) texts.1 asks_so (λ r. text_clean Answer behind r texts.0 (made.0.1.1, row.1) texts.2 answers_so clean))))
 
 -- ---- a product of a plan
 
@@ -191,27 +183,24 @@ after_size : (size : ℕ) (bytes : List ℕ) (taken : List ℕ × List ℕ) → 
 unfolding bytes_at
 after_size size bytes taken e = by_test _ e
   where
-    by_test : (fits : Bool) → (if fits then Some (take size bytes, drop size bytes) else None) ≡ Some taken → taken.1 ≡ drop size bytes
-    by_test true e = ap (λ (t : List ℕ × List ℕ). t.1) (sym (some_is _ _ e))
-    by_test false e = absurd cc
+    by_test : (short : Bool) → (if short then None else Some (take size bytes, drop size bytes)) ≡ Some taken → taken.1 ≡ drop size bytes
+    by_test true e = absurd cc
+    by_test false e = ap (λ (t : List ℕ × List ℕ). t.1) (sym (some_is _ _ e))
 
-pub product_clean : (behind : Telling) (place : ℕ) (bytes : List ℕ) (product : (List ℕ × ℕ) × List ℕ) → product_at bytes ≡ Some product
+pub product_clean : (behind : Telling) (place : ℕ) (bytes : List ℕ) (product : (List ℕ × ℕ) × List ℕ) → product_codec.at bytes ≡ Some product
     → ((p : ℕ) → Clean (behind p product.1)) → Clean (product_told behind place bytes)
-unfolding product_at product_told
+unfolding product_codec product_told
 product_clean behind place bytes product e clean =
-    let size = there (u8_at bytes) _ product e in
-    let text = there (bytes_at size.value.0 size.value.1) _ product size.goes_on in
-    let price = there (u32_at text.value.1) _ product text.goes_on in
-    let whole = some_is _ product price.goes_on in
+    let parts = both_parts (sized u8) u32 bytes product.0 product.1 e in
+    let size = there (u8_at bytes) (λ n. bytes_at n.0 n.1) (product.0.0, parts.0) parts.1 in
     let are : bytes ≡ size.value.0 ∷ size.value.1 = one_byte bytes size.value size.is in
-    let second : text.value.1 ≡ drop size.value.0 size.value.1 = after_size size.value.0 size.value.1 text.value text.is in
-    let third : price.value.1 ≡ drop 4 (drop size.value.0 size.value.1) = after_4 text.value.1 price.value price.is ∙ ap (drop 4) second in
-    let clean_so : (p : ℕ) → Clean (behind p price.value.1) = subst (λ (x : (List ℕ × ℕ) × List ℕ). (p : ℕ) → Clean (behind p x.1)) (sym whole) clean in
+    let second : parts.0 ≡ drop size.value.0 size.value.1 = after_size size.value.0 size.value.1 (product.0.0, parts.0) size.goes_on in
+    let third : product.1 ≡ drop 4 (drop size.value.0 size.value.1) = after_4 parts.0 (product.0.1, product.1) parts.2 ∙ ap (drop 4) second in
     subst (λ (bs : List ℕ). Clean (product_told behind place bs)) (sym are)
     (piece_clean (part.Mark mark.Length) 1 (piece_told (part.Mark mark.PlanProduct) size.value.0 (piece_told (part.Mark mark.Price) 4 behind)) place (size.value.0 ∷ size.value.1) refl
     (λ p. piece_clean (part.Mark mark.PlanProduct) size.value.0 (piece_told (part.Mark mark.Price) 4 behind) p size.value.1 refl
     (λ q. piece_clean (part.Mark mark.Price) 4 behind q (drop size.value.0 size.value.1) refl
-    (λ r. subst (λ (bs : List ℕ). Clean (behind r bs)) third (clean_so r)))))
+    (λ r. subst (λ (bs : List ℕ). Clean (behind r bs)) third (clean r)))))
 
 -- ---- heads
 
@@ -241,26 +230,25 @@ counted place bytes rest taken is e = sym (ap (λ (bs : List ℕ). count_in (u32
 further : (more place far : ℕ) (bytes rest behind : List ℕ) → rest ≡ drop place bytes → behind ≡ drop more rest → far ≡ more + place → behind ≡ drop far bytes
 further more place far bytes rest behind is e sum = e ∙ ap (drop more) is ∙ drop-drop more place bytes ∙ ap (λ n. drop n bytes) (omega (arith, sum))
 
-pub record HasJournalHead (bytes : List ℕ) (h : HeadParts) : Type 0 where
-  pub mark : h.mark ≡ from_be_bytes w16 (take 2 bytes)
-  pub count : h.count ≡ count_at 5 bytes
-  pub rest : h.rest ≡ drop 9 bytes
+pub record HasJournalHead (bytes : List ℕ) (mark count : ℕ) (left : List ℕ) : Type 0 where
+  pub mark_is : mark ≡ from_be_bytes w16 (take 2 bytes)
+  pub count_is : count ≡ count_at 5 bytes
+  pub rest : left ≡ drop 9 bytes
 
-pub journal_head : (bytes : List ℕ) (h : HeadParts) → journal.head_at bytes ≡ Some h → HasJournalHead bytes h
-unfolding journal.head_at
+pub journal_head : (bytes : List ℕ) (h : _) → journal_head_codec.at bytes ≡ Some h → HasJournalHead bytes h.0.mark h.0.count h.1
+unfolding journal_head_codec
 journal_head bytes h e =
-    let mark = there (u16_at bytes) _ h e in
-    let version = there (u8_at mark.value.1) _ h mark.goes_on in
-    let number = there (u16_at version.value.1) _ h version.goes_on in
-    let count = there (u32_at number.value.1) _ h number.goes_on in
-    let whole : record { mark = mark.value.0; version = version.value.0; number = number.value.0; count = count.value.0; rest = count.value.1 } ≡ h = some_is _ h count.goes_on in
-    let at_2 : mark.value.1 ≡ drop 2 bytes = after_2 bytes mark.value mark.is in
-    let at_3 : version.value.1 ≡ drop 3 bytes = further 1 2 3 bytes mark.value.1 version.value.1 at_2 (after_1 mark.value.1 version.value version.is) refl in
-    let at_5 : number.value.1 ≡ drop 5 bytes = further 2 3 5 bytes version.value.1 number.value.1 at_3 (after_2 version.value.1 number.value number.is) refl in
+    let made = made_parts (pair u16 (pair version_codec (pair u16 u32))) _ bytes h.0 h.1 e in
+    let mark = both_parts u16 (pair version_codec (pair u16 u32)) bytes made.0 h.1 made.1 in
+    let version = both_parts version_codec (pair u16 u32) mark.0 made.0.1 h.1 mark.2 in
+    let number = both_parts u16 u32 version.0 made.0.1.1 h.1 version.2 in
+    let at_2 : mark.0 ≡ drop 2 bytes = after_2 bytes (made.0.0, mark.0) mark.1 in
+    let at_3 : version.0 ≡ drop 3 bytes = further 1 2 3 bytes mark.0 version.0 at_2 (after_1 mark.0 (made.0.1.0, version.0) version.1) refl in
+    let at_5 : number.0 ≡ drop 5 bytes = further 2 3 5 bytes version.0 number.0 at_3 (after_2 version.0 (made.0.1.1.0, number.0) number.1) refl in
     record {
-      mark = sym (ap (λ (x : HeadParts). x.mark) whole) ∙ first_2 bytes mark.value mark.is;
-      count = sym (ap (λ (x : HeadParts). x.count) whole) ∙ counted 5 bytes number.value.1 count.value at_5 count.is;
-      rest = sym (ap (λ (x : HeadParts). x.rest) whole) ∙ further 4 5 9 bytes number.value.1 count.value.1 at_5 (after_4 number.value.1 count.value count.is) refl;
+      mark_is = sym (ap (λ x. x.mark) made.2) ∙ first_2 bytes (made.0.0, mark.0) mark.1;
+      count_is = sym (ap (λ x. x.count) made.2) ∙ counted 5 bytes number.0 (made.0.1.1.1, h.1) at_5 number.2;
+      rest = further 4 5 9 bytes number.0 h.1 at_5 (after_4 number.0 (made.0.1.1.1, h.1) number.2) refl;
     }
 
 pub record HasBookHead (bytes : List ℕ) (name products rows : ℕ) (left : List ℕ) : Type 0 where
@@ -270,29 +258,28 @@ pub record HasBookHead (bytes : List ℕ) (name products rows : ℕ) (left : Lis
   pub rows_are : rows ≡ count_at 25 bytes
   pub rest : left ≡ drop 29 bytes
 
-pub book_head : (bytes : List ℕ) (h : _) → book.head_at bytes ≡ Some h → HasBookHead bytes h.0.name h.0.products h.0.rows h.1
-unfolding book.head_at
+pub book_head : (bytes : List ℕ) (h : _) → book_head_codec.at bytes ≡ Some h → HasBookHead bytes h.0.name h.0.products h.0.rows h.1
+unfolding book_head_codec
 book_head bytes h e =
-    let name = there (u16_at bytes) _ h e in
-    let version = there (u8_at name.value.1) _ h name.goes_on in
-    let payer = there (u16_at version.value.1) _ h version.goes_on in
-    let serial = there (u64_at payer.value.1) _ h payer.goes_on in
-    let fee = there (u32_at serial.value.1) _ h serial.goes_on in
-    let copay = there (u32_at fee.value.1) _ h fee.goes_on in
-    let products = there (u32_at copay.value.1) _ h copay.goes_on in
-    let rows = there (u32_at products.value.1) _ h products.goes_on in
-    let whole = some_is _ h rows.goes_on in
-    let at_2 : name.value.1 ≡ drop 2 bytes = after_2 bytes name.value name.is in
-    let at_3 : version.value.1 ≡ drop 3 bytes = further 1 2 3 bytes name.value.1 version.value.1 at_2 (after_1 name.value.1 version.value version.is) refl in
-    let at_5 : payer.value.1 ≡ drop 5 bytes = further 2 3 5 bytes version.value.1 payer.value.1 at_3 (after_2 version.value.1 payer.value payer.is) refl in
-    let at_13 : serial.value.1 ≡ drop 13 bytes = further 8 5 13 bytes payer.value.1 serial.value.1 at_5 (after_8 payer.value.1 serial.value serial.is) refl in
-    let at_17 : fee.value.1 ≡ drop 17 bytes = further 4 13 17 bytes serial.value.1 fee.value.1 at_13 (after_4 serial.value.1 fee.value fee.is) refl in
-    let at_21 : copay.value.1 ≡ drop 21 bytes = further 4 17 21 bytes fee.value.1 copay.value.1 at_17 (after_4 fee.value.1 copay.value copay.is) refl in
-    let at_25 : products.value.1 ≡ drop 25 bytes = further 4 21 25 bytes copay.value.1 products.value.1 at_21 (after_4 copay.value.1 products.value products.is) refl in
+    let made = made_parts (pair identity_codec counts_codec) _ bytes h.0 h.1 e in
+    let halves = both_parts identity_codec counts_codec bytes made.0 h.1 made.1 in
+    let name = both_parts u16 (pair version_codec (pair u16 u64)) bytes made.0.0 halves.0 halves.1 in
+    let version = both_parts version_codec (pair u16 u64) name.0 made.0.0.1 halves.0 name.2 in
+    let payer = both_parts u16 u64 version.0 made.0.0.1.1 halves.0 version.2 in
+    let fee = both_parts u32 (pair u32 (pair u32 u32)) halves.0 made.0.1 h.1 halves.2 in
+    let copay = both_parts u32 (pair u32 u32) fee.0 made.0.1.1 h.1 fee.2 in
+    let products = both_parts u32 u32 copay.0 made.0.1.1.1 h.1 copay.2 in
+    let at_2 : name.0 ≡ drop 2 bytes = after_2 bytes (made.0.0.0, name.0) name.1 in
+    let at_3 : version.0 ≡ drop 3 bytes = further 1 2 3 bytes name.0 version.0 at_2 (after_1 name.0 (made.0.0.1.0, version.0) version.1) refl in
+    let at_5 : payer.0 ≡ drop 5 bytes = further 2 3 5 bytes version.0 payer.0 at_3 (after_2 version.0 (made.0.0.1.1.0, payer.0) payer.1) refl in
+    let at_13 : halves.0 ≡ drop 13 bytes = further 8 5 13 bytes payer.0 halves.0 at_5 (after_8 payer.0 (made.0.0.1.1.1, halves.0) payer.2) refl in
+    let at_17 : fee.0 ≡ drop 17 bytes = further 4 13 17 bytes halves.0 fee.0 at_13 (after_4 halves.0 (made.0.1.0, fee.0) fee.1) refl in
+    let at_21 : copay.0 ≡ drop 21 bytes = further 4 17 21 bytes fee.0 copay.0 at_17 (after_4 fee.0 (made.0.1.1.0, copay.0) copay.1) refl in
+    let at_25 : products.0 ≡ drop 25 bytes = further 4 21 25 bytes copay.0 products.0 at_21 (after_4 copay.0 (made.0.1.1.1.0, products.0) products.1) refl in
     record {
-      long = long_2 bytes name.value name.is;
-      name_is = sym (ap (λ x. x.0.name) whole) ∙ first_2 bytes name.value name.is;
-      products_are = sym (ap (λ x. x.0.products) whole) ∙ counted 21 bytes copay.value.1 products.value at_21 products.is;
-      rows_are = sym (ap (λ x. x.0.rows) whole) ∙ counted 25 bytes products.value.1 rows.value at_25 rows.is;
-      rest = sym (ap (λ x. x.1) whole) ∙ further 4 25 29 bytes products.value.1 rows.value.1 at_25 (after_4 products.value.1 rows.value rows.is) refl;
+      long = long_2 bytes (made.0.0.0, name.0) name.1;
+      name_is = sym (ap (λ x. x.name) made.2) ∙ first_2 bytes (made.0.0.0, name.0) name.1;
+      products_are = sym (ap (λ x. x.products) made.2) ∙ counted 21 bytes copay.0 (made.0.1.1.1.0, products.0) at_21 products.1;
+      rows_are = sym (ap (λ x. x.rows) made.2) ∙ counted 25 bytes products.0 (made.0.1.1.1.1, h.1) at_25 products.2;
+      rest = further 4 25 29 bytes products.0 h.1 at_25 (after_4 products.0 (made.0.1.1.1.1, h.1) products.2) refl;
     }

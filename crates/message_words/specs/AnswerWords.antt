@@ -45,11 +45,11 @@ answer_told fault.NoStatus = told_of (codes "NoStatus") (codes "a transaction ha
 answer_told fault.BadStatus =
     told_of (codes "BadStatus") (codes "a response status (112-AN) is not P, D, A or R, or contradicts the header")
 answer_told fault.BadAmount =
-    told_of (codes "BadAmount") (codes "the amounts of a transaction are missing, negative or do not go together")
+    told_of (codes "BadAmount") (codes "the amounts of a transaction are missing, no amounts or negative")
 answer_told fault.BadAuthorization =
     told_of (codes "BadAuthorization") (codes "an authorization number (503-F3) is missing or none")
 answer_told fault.BadRejects =
-    told_of (codes "BadRejects") (codes "the reject codes are missing, unknown or not as many as their count (510-FA)")
+    told_of (codes "BadRejects") (codes "the reject codes are missing, no codes or not as many as their count (510-FA)")
 answer_told fault.BadClaim =
     told_of (codes "BadClaim") (codes "a prescription number (402-D2) or its qualifier (455-EM) is missing or none")
 

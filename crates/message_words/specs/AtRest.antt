@@ -1,6 +1,7 @@
 -- What stands where in a journal or a book at rest.
 use Rattle.std.specs.Prelude.{ℕ, zero, suc, ◌+◌, Bool, false, ◌&&◌, ◌==◌, List, [], ◌∷◌, ◌++◌, length, take, drop, Option, Some, None, if◌then◌else◌}
-use Rattle.kept_records.specs.Fields.{u32_at, text_at}
+use Rattle.codec.specs.Fields.{u32_at}
+use Rattle.kept_records.specs.Fields.{text_codec}
 use Rattle.message_words.specs.declared.dissecting.Carried.{Carried}
 use Rattle.message_words.specs.declared.layout.Form.{Form}
 use Rattle.message_words.specs.declared.layout.Form.TheVariants.{Request, Answer}
@@ -62,7 +63,7 @@ taken_told form (Some taken) behind place bytes =
 
 -- a request or an answer after its length, where it is all there and has at most 32,768 bytes
 abbrev pub text_told : Form → Telling → Telling
-text_told form behind place bytes = piece_told (Mark mark.Length) 4 (taken_told form (text_at bytes) behind) place bytes
+text_told form behind place bytes = piece_told (Mark mark.Length) 4 (taken_told form (text_codec.at bytes) behind) place bytes
 
 -- this many of these, one after the other
 unfoldable pub each_told : (Telling → Telling) → ℕ → Telling → Telling

@@ -22,9 +22,23 @@ pub record CauseSeen : Type 0 where
   pub field : FieldName
   pub found : Tally
 
+-- the code that tells of a field that is not good
+abbrev pub code_for : FieldName → Code
+code_for field.Cardholder = code.Cardholder
+code_for field.DateOfService = code.DateOfService
+code_for field.PrescriptionQualifier = code.Prescription
+code_for field.Prescription = code.Prescription
+code_for field.FillNumber = code.FillNumber
+code_for field.ProductQualifier = code.Product
+code_for field.Product = code.Product
+code_for field.Quantity = code.Quantity
+code_for field.IngredientCost = code.IngredientCost
+code_for field.DispensingFee = code.DispensingFee
+code_for _ = code.NotCovered
+
 -- a cause of the code, without the place of its value in memory
 abbrev pub cause_seen : Cause → CauseSeen
-cause_seen c = record { code = c.code; field = c.field; found = found_seen c.found }
+cause_seen c = record { code = code_for c.field; field = c.field; found = found_seen c.found }
 
 abbrev pub causes_seen : List Cause → List CauseSeen
 causes_seen causes = map cause_seen causes

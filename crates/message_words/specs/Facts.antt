@@ -9,7 +9,7 @@ use Rattle.message_words.specs.declared.facts.Fact.{Fact as Given}
 use Rattle.message_words.specs.declared.facts.Fact.TheVariants as given
 use Rattle.message_words.specs.declared.page.Style.{Style}
 use Rattle.message_words.specs.declared.page.Style.TheVariants.{Lines, Json}
-use Rattle.message_words.specs.CodeNames.{code_name}
+use Rattle.claim_profile.specs.CodeNames.{code_name}
 use Rattle.message_words.specs.Encoded.{json_string}
 use Rattle.message_words.specs.Figures.{dollars, units}
 use Rattle.message_words.specs.Sayings.{Said, says}

@@ -15,7 +15,6 @@ pub mod Written
 pub mod InputLines
 pub mod Encoded
 pub mod Figures
-pub mod CodeNames
 pub mod Meanings
 pub mod Members
 pub mod Unused

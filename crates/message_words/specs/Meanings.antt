@@ -19,7 +19,7 @@ use Rattle.claim_profile.specs.Transaction.{transaction_code}
 use Rattle.message_words.specs.declared.marks.Mark.{Mark}
 use Rattle.message_words.specs.declared.names.FieldName.{FieldName}
 use Rattle.message_words.specs.declared.names.FieldName.TheVariants as field
-use Rattle.message_words.specs.CodeNames.{code_name}
+use Rattle.claim_profile.specs.CodeNames.{code_name}
 use Rattle.message_words.specs.FieldTitles.{holds_amount}
 use Rattle.message_words.specs.Figures.{dollars, units}
 use Rattle.message_words.specs.Naming.{spells_number}

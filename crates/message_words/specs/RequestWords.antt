@@ -20,7 +20,7 @@ use Rattle.message_words.specs.declared.names.FieldName.{FieldName}
 use Rattle.message_words.specs.declared.names.FieldName.TheVariants as field
 use Rattle.message_words.specs.declared.sentences.TheConstants.{BILLING, NOT_CARRIED, REJECTED_NOTHING, REJECTED_ONE, REJECTED_SEVERAL, REVERSAL, REVERSAL_OF_ONE}
 use Rattle.message_words.specs.Causes.{CauseSeen}
-use Rattle.message_words.specs.CodeNames.{code_name}
+use Rattle.claim_profile.specs.CodeNames.{code_name}
 use Rattle.message_words.specs.Facts.{Fact, Number, Dollars, Units, Words, Printed, Either, of_row, says_of, Sentence}
 use Rattle.message_words.specs.FaultWords.{framing_said}
 use Rattle.message_words.specs.FieldTitles.{titles_of}

@@ -87,7 +87,7 @@ fn answer_told(fault: AnswerFault) -> Told
         ),
         AnswerFault::BadAmount => Told::of(
             "BadAmount",
-            "the amounts of a transaction are missing, negative or do not go together",
+            "the amounts of a transaction are missing, no amounts or negative",
         ),
         AnswerFault::BadAuthorization => Told::of(
             "BadAuthorization",
@@ -95,7 +95,7 @@ fn answer_told(fault: AnswerFault) -> Told
         ),
         AnswerFault::BadRejects => Told::of(
             "BadRejects",
-            "the reject codes are missing, unknown or not as many as their count (510-FA)",
+            "the reject codes are missing, no codes or not as many as their count (510-FA)",
         ),
         AnswerFault::BadClaim => Told::of(
             "BadClaim",

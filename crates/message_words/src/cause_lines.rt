@@ -1,23 +1,22 @@
 //! Why a transaction is rejected, as it is told.
 
 ghost use Rattle.std.specs.Prelude.{◌≡◌, [], ◌∷◌};
+ghost use Rattle.message_words.specs.Causes.{code_for};
 ghost use Rattle.message_words.specs.Facts.{fact_seen, given_row};
 ghost use Rattle.message_words.specs.Found.{found_seen};
 ghost use Rattle.message_words.specs.RequestWords.{beyond, rejected, told_said};
 ghost use Rattle.message_words.specs.Sayings.{Finds};
 
-use crate::code_names::code_name;
+use crate::causes::code_for;
 use crate::facts::Fact;
 use crate::finding_page::FindingPage;
 use crate::found::Found;
 use crate::names::FieldName;
 use crate::sentences::{REJECTED_NOTHING, REJECTED_ONE, REJECTED_SEVERAL, Sentence};
-use claim_profile::Code;
 
 /// A cause as it is told, but for what stands in its field: what is wanted there, and whether an answer tells it.
 #[derive(Clone, Copy)]
 pub(crate) struct CauseTold {
-    pub(crate) code: Code,
     pub(crate) field: FieldName,
     pub(crate) wanted: &'static str,
     pub(crate) is_told: bool,
@@ -26,7 +25,7 @@ pub(crate) struct CauseTold {
 impl FindingPage {
     /// Writes a cause as it is told, where this was found.
     pub(crate) fn cause_told(&mut self, transaction: u64, told: CauseTold, found: Found<'_>)
-        ensures { Finds (told_said transaction told.code told.field (found_seen found.entry) told.wanted.now
+        ensures { Finds (told_said transaction (code_for told.field) told.field (found_seen found.entry) told.wanted.now
             told.is_told ∷ []) self.old self.new }
     {
         match found {
@@ -38,17 +37,17 @@ impl FindingPage {
 
     /// Writes a cause of this value in this sentence.
     fn rejected(&mut self, sentence: Sentence, transaction: u64, told: CauseTold, value: &[u8])
-        ensures { Finds (rejected (given_row sentence.entry) transaction told.code told.field value.now
+        ensures { Finds (rejected (given_row sentence.entry) transaction (code_for told.field) told.field value.now
             told.wanted.now told.is_told ∷ []) self.old self.new }
     {
-        let code = told.code.text();
+        let code = code_for(told.field);
         let named = told.field.named();
         self.tell(
             sentence,
             &[
                 Fact::Number(transaction),
-                Fact::Printed(&code),
-                Fact::Words(code_name(told.code).as_bytes()),
+                Fact::Printed(code.text()),
+                Fact::Words(code.name().as_bytes()),
                 Fact::Words(named.number.as_bytes()),
                 Fact::Words(named.key.as_bytes()),
                 Fact::Words(named.name.as_bytes()),

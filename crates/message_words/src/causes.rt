@@ -7,6 +7,7 @@ ghost use Rattle.message_words.specs.Found.{found_seen};
 ghost use Rattle.message_words.specs.Causes.{
   cause_seen,
   causes_seen,
+  code_for,
   condition_seen,
   holding,
   causes_in,
@@ -34,11 +35,9 @@ use d0_header::{RequestHeader, is_date};
 use d0_segments::{Cursor, Framed};
 use std::alloc::{AllocError, Global};
 
-/// Why a transaction is rejected: the code that tells it, the field that is not good, and what stands in it.
+/// Why a transaction is rejected: the field that is not good, which has a code, and what stands in it.
 #[derive(Clone, Copy)]
 pub struct Cause<'a> {
-    /// The code (511-FB) that tells it.
-    pub code: Code,
     /// The field that is not good.
     pub field: FieldName,
     /// What stands in it; nothing of the date of service, which stands in the header.
@@ -47,10 +46,29 @@ pub struct Cause<'a> {
 
 impl<'a> Cause<'a> {
     /// A cause of these parts.
-    fn of(code: Code, field: FieldName, found: Found<'a>) -> Cause<'a>
-        ensures { cause_seen result ≡ record { code = code; field = field; found = found_seen found.entry } }
+    fn of(field: FieldName, found: Found<'a>) -> Cause<'a>
+        ensures { cause_seen result ≡ record { code = code_for field; field = field; found = found_seen found.entry } }
     {
-        Cause { code, field, found }
+        Cause { field, found }
+    }
+}
+
+/// The code (511-FB) that tells of a field that is not good; 70 of the transaction code, and of fields that nothing is rejected for.
+pub fn code_for(field: FieldName) -> Code
+    ensures { result ≡ code_for field }
+{
+    match field {
+        FieldName::Cardholder => Code::Cardholder,
+        FieldName::DateOfService => Code::DateOfService,
+        FieldName::PrescriptionQualifier => Code::Prescription,
+        FieldName::Prescription => Code::Prescription,
+        FieldName::FillNumber => Code::FillNumber,
+        FieldName::ProductQualifier => Code::Product,
+        FieldName::Product => Code::Product,
+        FieldName::Quantity => Code::Quantity,
+        FieldName::IngredientCost => Code::IngredientCost,
+        FieldName::DispensingFee => Code::DispensingFee,
+        _ => Code::NotCovered,
     }
 }
 
@@ -82,7 +100,7 @@ pub fn all_causes<'a>(
 fn uncarried_causes<'a>(alloc: Global) -> Result<Vec<Cause<'a>>, AllocError>
     ensures { IfOk result (λ found. causes_seen found.items ≡ uncarried_cause ∷ []) }
 {
-    let cause = Cause::of(Code::NotCovered, FieldName::TransactionCode, Found::Nothing);
+    let cause = Cause::of(FieldName::TransactionCode, Found::Nothing);
     collect(alloc, &[(true, cause)])
 }
 
@@ -163,7 +181,7 @@ fn cardholder(from: Cursor<'_>) -> (bool, Cause<'_>)
     ensures { condition_seen result ≡ cardholder_condition (shared_of from.entry.bytes.now) }
 {
     let found = Found::text(from, *b"04", *b"C2");
-    let cause = Cause::of(Code::Cardholder, FieldName::Cardholder, found);
+    let cause = Cause::of(FieldName::Cardholder, found);
     (is_bad_text(found, 20), cause)
 }
 
@@ -172,11 +190,7 @@ fn cardholder(from: Cursor<'_>) -> (bool, Cause<'_>)
 fn date<'a>(header: &RequestHeader) -> (bool, Cause<'a>)
     ensures { condition_seen result ≡ date_condition header.now }
 {
-    let cause = Cause::of(
-        Code::DateOfService,
-        FieldName::DateOfService,
-        Found::Nothing,
-    );
+    let cause = Cause::of(FieldName::DateOfService, Found::Nothing);
     (!is_date(&header.date()), cause)
 }
 
@@ -187,15 +201,11 @@ fn prescription(from: Cursor<'_>) -> (bool, Cause<'_>)
 {
     let qualifier = Found::text(from, *b"07", *b"EM");
     if !is_exactly(qualifier, b"1") {
-        let cause = Cause::of(
-            Code::Prescription,
-            FieldName::PrescriptionQualifier,
-            qualifier,
-        );
+        let cause = Cause::of(FieldName::PrescriptionQualifier, qualifier);
         return (true, cause);
     }
     let found = Found::value(from, *b"07", *b"D2");
-    let cause = Cause::of(Code::Prescription, FieldName::Prescription, found);
+    let cause = Cause::of(FieldName::Prescription, found);
     (is_bad_number(found, 12), cause)
 }
 
@@ -205,7 +215,7 @@ fn fill(from: Cursor<'_>) -> (bool, Cause<'_>)
     ensures { condition_seen result ≡ fill_condition (shared_of from.entry.bytes.now) }
 {
     let found = Found::value(from, *b"07", *b"D3");
-    let cause = Cause::of(Code::FillNumber, FieldName::FillNumber, found);
+    let cause = Cause::of(FieldName::FillNumber, found);
     (is_bad_number(found, 2), cause)
 }
 
@@ -216,11 +226,11 @@ fn product(from: Cursor<'_>) -> (bool, Cause<'_>)
 {
     let qualifier = Found::text(from, *b"07", *b"E1");
     if !is_exactly(qualifier, b"03") {
-        let cause = Cause::of(Code::Product, FieldName::ProductQualifier, qualifier);
+        let cause = Cause::of(FieldName::ProductQualifier, qualifier);
         return (true, cause);
     }
     let found = Found::text(from, *b"07", *b"D7");
-    let cause = Cause::of(Code::Product, FieldName::Product, found);
+    let cause = Cause::of(FieldName::Product, found);
     (is_bad_text(found, 19), cause)
 }
 
@@ -230,7 +240,7 @@ fn quantity(from: Cursor<'_>) -> (bool, Cause<'_>)
     ensures { condition_seen result ≡ quantity_condition (shared_of from.entry.bytes.now) }
 {
     let found = Found::value(from, *b"07", *b"E7");
-    let cause = Cause::of(Code::Quantity, FieldName::Quantity, found);
+    let cause = Cause::of(FieldName::Quantity, found);
     (is_bad_number(found, 10), cause)
 }
 
@@ -240,7 +250,7 @@ fn cost(from: Cursor<'_>) -> (bool, Cause<'_>)
     ensures { condition_seen result ≡ cost_condition (shared_of from.entry.bytes.now) }
 {
     let found = Found::value(from, *b"11", *b"D9");
-    let cause = Cause::of(Code::IngredientCost, FieldName::IngredientCost, found);
+    let cause = Cause::of(FieldName::IngredientCost, found);
     (is_bad_amount(found), cause)
 }
 
@@ -250,7 +260,7 @@ fn fee(from: Cursor<'_>) -> (bool, Cause<'_>)
     ensures { condition_seen result ≡ fee_condition (shared_of from.entry.bytes.now) }
 {
     let found = Found::value(from, *b"11", *b"DC");
-    let cause = Cause::of(Code::DispensingFee, FieldName::DispensingFee, found);
+    let cause = Cause::of(FieldName::DispensingFee, found);
     (is_bad_fee(found), cause)
 }
 
@@ -260,6 +270,6 @@ fn given_fill(from: Cursor<'_>) -> (bool, Cause<'_>)
     ensures { condition_seen result ≡ given_fill_condition (shared_of from.entry.bytes.now) }
 {
     let found = Found::value(from, *b"07", *b"D3");
-    let cause = Cause::of(Code::FillNumber, FieldName::FillNumber, found);
+    let cause = Cause::of(FieldName::FillNumber, found);
     (is_bad_given_fill(found), cause)
 }

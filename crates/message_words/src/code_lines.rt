@@ -6,7 +6,6 @@ ghost use Rattle.message_words.specs.Encoded.{json_letters, json_string};
 ghost use Rattle.message_words.specs.Facts.{named_code, named_codes, plain_codes};
 ghost use Rattle.message_words.specs.Written.{Takes};
 
-use crate::code_names::code_name;
 use crate::text::Text;
 use claim_profile::Code;
 
@@ -34,7 +33,7 @@ fn put_plain_codes(out: &mut Text, rejects: &[Code])
 fn put_plain_code(out: &mut Text, front: &[u8], code: Code)
     ensures { Takes (json_letters (front.now ++ code_text code)) out.old out.new }
 {
-    put_letters(out, front, &code.text());
+    put_letters(out, front, code.text());
 }
 
 /// Writes letters of a string, and others after them.
@@ -61,7 +60,7 @@ pub(crate) fn put_named_codes(out: &mut Text, rejects: &[Code])
 fn put_named_code(out: &mut Text, front: &[u8], code: Code)
     ensures { Takes (named_code front.now code) out.old out.new }
 {
-    put_name_behind(out, front, &code.text(), code_name(code).as_bytes());
+    put_name_behind(out, front, code.text(), code.name().as_bytes());
 }
 
 /// Writes a code and its name, after words.

@@ -7,7 +7,6 @@ mod books;
 mod cause_lines;
 mod causes;
 mod code_lines;
-mod code_names;
 mod cutter;
 mod dates;
 mod describing;

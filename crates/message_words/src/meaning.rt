@@ -23,7 +23,6 @@ ghost use Rattle.message_words.specs.Meanings.{
 };
 ghost use Rattle.message_words.specs.Written.{Takes};
 
-use crate::code_names::code_name;
 use crate::dates::put_date;
 use crate::marks::Mark;
 use crate::names::FieldName;
@@ -199,7 +198,7 @@ fn reject_words(value: &[u8]) -> &'static str
     ensures { result.now ≡ reject_meaning (code_of value.now) }
 {
     match Code::read(value) {
-        Some(code) => code_name(code),
+        Some(code) => code.name(),
         None => "a code that the product does not know",
     }
 }

@@ -2,7 +2,7 @@
 
 ghost use Rattle.std.specs.Prelude.{◌≡◌, ◌≤◌, ◌+◌, ◌-◌, List, [], ◌++◌, length, min, take, drop, true, IfOk, OnOk, IfSome};
 ghost use Rattle.std.specs.Option.{option_map};
-ghost use Rattle.kept_records.specs.Fields.{text_at};
+ghost use Rattle.kept_records.specs.Fields.{text_codec};
 ghost use Rattle.message_words.specs.declared.part.PartKind.TheVariants as part;
 ghost use Rattle.message_words.specs.Meanings.{number_in};
 ghost use Rattle.message_words.specs.AtRest.{count_at, head_told, is_book, piece_told, record_told, taken_told, text_told};
@@ -18,8 +18,8 @@ use crate::marks::Mark;
 use crate::part::PartKind;
 use crate::part_rows::behind;
 use crate::transmissions::{cut_head, front_of};
+use codec::take_u32;
 use envelope::LARGEST_PAYLOAD;
-use kept_records::take_u32;
 use std::alloc::AllocError;
 
 /// The head of an envelope.
@@ -143,9 +143,9 @@ pub(crate) fn cut_text(
 }
 
 /// How many bytes the text has that stands here after its length; none where it is cut off or too long.
-#[tactic(auto, unfolding(kept_records::specs::Fields::text_at, kept_records::specs::Fields::u32_at))]
+#[tactic(auto, unfolding(kept_records::specs::Fields::text_codec, codec::specs::Fields::u32_at, codec::specs::Fields::bytes_at))]
 fn text_size(bytes: &[u8]) -> Option<usize>
-    ensures text { text_at bytes.now
+    ensures text { text_codec.at bytes.now
         ≡ option_map (λ size. (take size (drop 4 bytes.now), drop size (drop 4 bytes.now))) result }
     ensures room { IfSome result (λ size. 4 + size ≤ length bytes.now) }
 {

@@ -134,7 +134,6 @@ impl FindingPage {
         ensures { Finds (cause_said header.now transaction (cause_seen cause.now) is_told ∷ []) self.old self.new }
     {
         let told = CauseTold {
-            code: cause.code,
             field: cause.field,
             wanted: wanted_in(cause.field, TransactionCode::read(header.code())),
             is_told,

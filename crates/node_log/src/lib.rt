@@ -17,5 +17,5 @@ pub use making::{make_log, make_log_from};
 pub use misfit::{FirstMisfit, fits};
 pub use record::Record;
 pub use replay::replay_log;
-pub use same::is_same_node;
-pub use there::is_there;
+pub use same::{is_same_node, is_same_sent};
+pub use there::{is_numbered, is_there};

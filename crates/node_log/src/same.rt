@@ -30,7 +30,7 @@ pub fn is_same_node(a: Node, b: Node) -> bool
 }
 
 /// Whether the same was sent: to the same nodes in the same order, with the same bytes.
-pub(crate) fn is_same_sent(a: &[Sent], b: &[Sent]) -> bool
+pub fn is_same_sent(a: &[Sent], b: &[Sent]) -> bool
     ensures { IsTrue result ↔ (map sent_seen a.now ≡ map sent_seen b.now) }
 {
     if a.len() != b.len() {

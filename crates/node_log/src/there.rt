@@ -21,7 +21,7 @@ pub fn is_there(settings: &WorldSettings, node: Node) -> bool
 }
 
 /// Whether a number is from 1 to a count.
-fn is_numbered(count: usize, number: u16) -> bool
+pub fn is_numbered(count: usize, number: u16) -> bool
     ensures { result ≡ is_numbered count number }
 {
     number > 0 && number as usize <= count

@@ -54,7 +54,7 @@ codes_follow b before c o well true is = by_verdict (verdict_in c.fill.prescript
     rejects codes r = subst (λ (t : Bool). MayReject t codes) (sym is) r
 
     by_verdict : (v : Option Verdict) → ((w : Verdict) → v ≡ Some w → IsVerdict w) → FollowsRules b before (ToPrice c) (priced (next_auth b before) c v)
-    by_verdict None f = inl (Code.NotCovered ∷ [], rejects (Code.NotCovered ∷ []) (record { some = omega arith; few = omega arith }), refl)
+    by_verdict None f = inl (Code.NotCovered ∷ [], rejects (Code.NotCovered ∷ []) (record { some = omega arith; few = omega arith; each = (refl, tt) }), refl)
     by_verdict (Some (Rejects codes)) f = inl (codes, rejects codes (f (Rejects codes) refl), refl)
     by_verdict (Some (Pays m)) f = inr (m, f (Pays m) refl, refl)
 codes_follow b before c o well false is = by_amounts (amounts_in o) (λ m e. pays_well o m well e)
@@ -147,7 +147,7 @@ again_from b before id place (order ∷ orders) said front (r ∷ rulings) e at 
 
 may_reject : (asks : Bool) (codes : List Code) → MayReject asks codes → IsRejects codes
 may_reject true codes m = m
-may_reject false codes m = subst IsRejects (sym m) (record { some = omega arith; few = omega arith })
+may_reject false codes m = subst IsRejects (sym m) (record { some = omega arith; few = omega arith; each = (refl, tt) })
 
 told_one : (b : Book) (before : List Ruled) (h : RequestHeader) (order : Result Order (List Code)) (r : Ruling) → 1 ≤ b.payer → b.payer ≤ 9999 → 1 ≤ b.settings.serial → AllByRecursion IsTold (standing_in (payments_of before))
     → IsOrderOf h order → FollowsRules b before (judged before order) r → serial_fits r ≡ true → IsRuling r

@@ -4,6 +4,7 @@ use Rattle.std.specs.Prelude.{filter, slice_get}
 use Rattle.std.proofs.lemmas.Option.{same_Some as same_some}
 use Rattle.std.specs.List.{AllByRecursion, list_all}
 use Rattle.std.proofs.lemmas.Bool.{and_parts}
+use Rattle.claim_profile.specs.Ruling.{IsCode}
 use Rattle.claim_model.proofs.Tests.{nat_self}
 use Rattle.plan_rules.specs.Pricing.{paid}
 use Rattle.claim_model.specs.Words.{TxnId, Auth, Amounts, Claim, Reversal, Order, Bills, Reverses, Code, NotCovered, DuplicateClaim, ReversalNotProcessed, Plan, Ruling, Paid, Duplicate, Reversed, Rejected, RequestHeader}
@@ -23,14 +24,14 @@ use Rattle.payer_book.specs.Made.{IsTold, ArePrices}
 use Rattle.payer_book.proofs.Growth.{standing_more, after_more}
 
 -- one code
-one_code : (code : Code) → IsRuling (Rejected (code ∷ []))
-one_code code = record { some = omega arith; few = omega arith }
+one_code : (code : Code) → IsCode code → IsRuling (Rejected (code ∷ []))
+one_code code is = record { some = omega arith; few = omega arith; each = (is, tt) }
 
 -- a draft's ruling
 module _ (auth : Auth) (payer : 1 ≤ auth.payer) (payer_fits : auth.payer ≤ 9999) (serial : 1 ≤ auth.serial) (prices : Pricing) (k : ℕ) (h : RequestHeader)
     (verdicts : (c : Claim) (v : Verdict) → IsClaimOf h c → price_at prices k c ≡ Some v → IsVerdict v) (standing : List Standing) (told : AllByRecursion IsTold standing) where
   priced_told : (c : Claim) (o : Option Verdict) → IsClaimOf h c → price_at prices k c ≡ o → serial_fits (priced auth c o) ≡ true → IsRuling (priced auth c o)
-  priced_told c None of_it e fits = one_code NotCovered
+  priced_told c None of_it e fits = one_code NotCovered refl
   priced_told c (Some (Rejects codes)) of_it e fits = verdicts c (Rejects codes) of_it e
   priced_told c (Some (Pays m)) of_it e fits =
       (record { payer = omega (arith, payer); payer_fits = payer_fits; serial = omega (arith, serial); serial_fits = leb-true auth.serial last_serial fits }, of_it.prescription, verdicts c (Pays m) of_it e)
@@ -41,10 +42,10 @@ module _ (auth : Auth) (payer : 1 ≤ auth.payer) (payer_fits : auth.payer ≤ 9
     where
       by_test : (b : Bool) → IsRuling (ruling_by auth prices k (cond b (Unpriced (Duplicate s.auth c.fill.prescription s.amounts)) (Unpriced (Rejected (DuplicateClaim ∷ [])))))
       by_test true = let t = find_all IsTold (is_of c.fill) standing s told e in (t.auth, of_it.prescription, t.amounts)
-      by_test false = one_code DuplicateClaim
+      by_test false = one_code DuplicateClaim refl
 
   reversal_told : (v : Reversal) (o : Option Standing) → IsPrescription v.prescription → only (filter (is_for_payment v) standing) ≡ o → IsRuling (ruling_by auth prices k (reversal_on v o))
-  reversal_told v None n e = one_code ReversalNotProcessed
+  reversal_told v None n e = one_code ReversalNotProcessed refl
   reversal_told v (Some s) n e = ((only_all IsTold (filter (is_for_payment v) standing) s (all_filter IsTold (is_for_payment v) standing told) e).auth, n)
 
   pub settled_told : (order : Result Order (List Code)) → IsOrderOf h order → serial_fits (ruling_by auth prices k (judged_on standing order)) ≡ true → IsRuling (ruling_by auth prices k (judged_on standing order))
@@ -95,16 +96,16 @@ after_told id ps (order ∷ orders) (r ∷ rulings) told all =
 -- verdicts of a plan, and those of an answer
 
 planned_fits : (law : (plan : Plan) (h : RequestHeader) (c : Claim) (m : Amounts) → IsClaimOf h c → paid plan c ≡ Some m → IsAmounts m) (plan : Plan) (h : RequestHeader) (c : Claim) → IsClaimOf h c → (o : Option Amounts) → paid plan c ≡ o → IsVerdict (planned o)
-planned_fits law plan h c of_it None e = record { some = omega arith; few = omega arith }
+planned_fits law plan h c of_it None e = record { some = omega arith; few = omega arith; each = (refl, tt) }
 planned_fits law plan h c of_it (Some m) e = law plan h c m of_it e
 
 -- what an answer pays is a verdict of it
 pays_fit : (o : Option Ruling) → ((claimed : ℕ) (v : Verdict) → verdict_in claimed o ≡ Some v → IsVerdict v) → IsVerdict (planned (amounts_in o))
-pays_fit None well = record { some = omega arith; few = omega arith }
+pays_fit None well = record { some = omega arith; few = omega arith; each = (refl, tt) }
 pays_fit (Some (Paid auth n m)) well = well n (Pays m) (ap (λ (t : Bool). cond t (Some (Pays m)) None) (nat_self n))
-pays_fit (Some (Duplicate auth n m)) well = record { some = omega arith; few = omega arith }
-pays_fit (Some (Reversed auth n)) well = record { some = omega arith; few = omega arith }
-pays_fit (Some (Rejected codes)) well = record { some = omega arith; few = omega arith }
+pays_fit (Some (Duplicate auth n m)) well = record { some = omega arith; few = omega arith; each = (refl, tt) }
+pays_fit (Some (Reversed auth n)) well = record { some = omega arith; few = omega arith; each = (refl, tt) }
+pays_fit (Some (Rejected codes)) well = record { some = omega arith; few = omega arith; each = (refl, tt) }
 
 kept_fits : (asks : Bool) (claimed : ℕ) (o : Option Ruling) (v : Verdict) → ((n : ℕ) (w : Verdict) → verdict_in n o ≡ Some w → IsVerdict w) → kept_verdict asks claimed o ≡ Some v → IsVerdict v
 kept_fits true claimed o v well e = well claimed v e

@@ -98,10 +98,6 @@ abbrev pub IsAuthAfter : Ledger → List Change → Option Auth → Type 0
 IsAuthAfter l changes result =
     MatchOption result (last_serial < (auth_after l changes).serial) (λ a. (a ≡ auth_after l changes) × (a.serial ≤ last_serial))
 
--- the ruling of a claim that is to be priced, after some changes
-abbrev pub priced_after : Ledger → Pricing → List Change → Claim → Ruling
-priced_after l prices changes c = priced (auth_after l changes) c (price_at prices (length changes) c)
-
 -- this ruling, where its serial is one that there is
 abbrev pub IsRulingThatFits : Ruling → Option Ruling → Type 0
 IsRulingThatFits ruling result = MatchOption result (serial_fits ruling ≡ false) (λ r. (r ≡ ruling) × (serial_fits r ≡ true))

@@ -6,6 +6,7 @@ pub(crate) mod changing;
 pub(crate) mod deciding;
 pub(crate) mod entering;
 pub(crate) mod held_rulings;
+pub(crate) mod hint;
 pub(crate) mod payment;
 pub(crate) mod payments;
 pub(crate) mod place_map;

@@ -16,7 +16,9 @@ pub const LARGEST: u32 = 99_999_999;
 /// the copay, but no more than there is to pay; the plan pays the rest.
 pub fn amounts_at(fee: u32, copay: u32, price: u32, claim: &Claim) -> Amounts
     requires { fee ≤ largest }
-    ensures { result ≡ amounts_at (record { fee = fee; copay = copay; prices = [] }) claim.now price }
+    ensures paid { result ≡ amounts_at (record { fee = fee; copay = copay; prices = [] }) claim.now price }
+    // What patient and plan pay is what cost and fee come to.
+    ensures sum { result.total + result.copay ≡ result.cost + result.fee }
 {
     let fee = claim.fee.min(fee);
     let worth = claim.quantity.saturating_mul(u64::from(price)) / 100_000;

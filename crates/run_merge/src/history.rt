@@ -122,7 +122,7 @@ fn name_at(pharmacies: usize, switches: usize, place: usize) -> Node
 }
 
 /// Whether no two logs are of one node.
-pub(crate) fn are_distinct(logs: &[NodeLog]) -> bool
+pub fn are_distinct(logs: &[NodeLog]) -> bool
     ensures { result ≡ all_distinct (logs_seen logs.now) }
 {
     for (place, log) in logs.iter().enumerate() {

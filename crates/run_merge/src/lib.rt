@@ -10,6 +10,6 @@ mod slip;
 mod turn;
 mod woken;
 
-pub use history::{MergeFault, merge};
+pub use history::{MergeFault, are_distinct, merge};
 pub use known::{MergedRun, merge_fitting};
 pub use posted::Posted;

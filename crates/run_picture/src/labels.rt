@@ -2,7 +2,7 @@
 
 use crate::lanes::Lanes;
 use crate::lettering::{put_ruling, put_txn};
-use claim_profile::{AnswerFault, Ruling, read_answer};
+use claim_profile::{AnswerFault, Ruling, read_advice, read_answer};
 use d0_header::RequestHeader;
 use envelope::{Envelope, Kind, TxnId};
 use input_text::put_decimal;
@@ -96,7 +96,7 @@ pub(crate) fn put_advice(
     bytes: &[u8],
 ) -> Result<(), AllocError> {
     label.extend_from_slice(b":")?;
-    match read_answer(alloc, bytes) {
+    match read_advice(alloc, bytes) {
         Ok(answer) => put_rulings(label, answer.rulings()),
         Err(AnswerFault::OutOfMemory) => Err(AllocError),
         Err(_) => label.extend_from_slice(b" no answer"),

@@ -118,7 +118,7 @@ pub(crate) fn put_ruling(out: &mut Vec<u8>, ruling: &Ruling) -> Result<(), Alloc
 fn put_codes(out: &mut Vec<u8>, codes: &[Code]) -> Result<(), AllocError> {
     for code in codes {
         out.extend_from_slice(b" ")?;
-        out.extend_from_slice(&code.text())?;
+        out.extend_from_slice(code.text())?;
     }
     Ok(())
 }

@@ -1,8 +1,8 @@
 -- Texts that end where they say: what stands at the front tells of what it is the text, and what follows it.
 use Rattle.std.proofs.Common.{◌≡◌, ℕ, List, [], ◌∷◌, ◌++◌, length, Option, Some, refl, sym, ap, ◌∙◌, arith, append_assoc}
 use Rattle.std.specs.List.{AllByRecursion, flat_map}
-use Rattle.kept_records.specs.Fields.{u64_at}
-use Rattle.kept_records.proofs.FieldsBack.{u64_at-put}
+use Rattle.codec.specs.Fields.{u64_at}
+use Rattle.codec.proofs.FieldsBack.{u64_at-put}
 use Rattle.kept_logs.specs.Fields.{text_of, text_at}
 use Rattle.kept_logs.proofs.FieldsBack.{text_at-put}
 use Rattle.settings_digest.specs.Said.{number_text, list_text}

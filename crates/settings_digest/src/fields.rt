@@ -6,7 +6,7 @@ ghost use Rattle.kept_logs.specs.Fields.{text_of};
 ghost use Rattle.settings_digest.specs.Said.{number_text, list_text};
 ghost use Rattle.settings_digest.specs.Fits.{FitsNumber, FitsText, FitsList};
 
-use kept_records::put_u64;
+use codec::put_u64;
 use std::alloc::AllocError;
 
 /// What settings say of one thing.

@@ -1,25 +1,25 @@
 -- In a run each request that is taken is of a pharmacy of the settings.
-use Rattle.std.proofs.Common.{◌≡◌, ℕ, Bool, true, false, cond, List, [], ◌∷◌, ◌++◌, Option, Some, None, Result, Ok, refl, sym, ap, ◌∙◌, subst}
+use Rattle.std.proofs.Common.{◌≡◌, ℕ, Bool, true, false, cond, List, [], ◌∷◌, Option, Some, None, refl, sym, ◌∙◌, subst}
 use Rattle.std.specs.List.{AllByRecursion}
-use Rattle.claim_model.specs.Words.{RequestHeader, Envelope}
+use Rattle.claim_model.specs.Words.{Envelope}
 use Rattle.claim_model.specs.Context.{Context}
 use Rattle.claim_model.specs.Laws.{Laws}
-use Rattle.claim_model.specs.Readable.{readable, is_request}
+use Rattle.claim_model.specs.Readable.{is_request}
 use Rattle.claim_model.specs.Numbered.{numbered}
-use Rattle.claim_model.specs.Node.{Node, Call, Submit, Tick, Take, Stop, Start, Reprice, Adjudicate, Outcome, Done, Refused}
-use Rattle.claim_model.specs.World.{World, Packet, Event, Submission, Ticking, Delivery, Stopping, Starting, PlanChange, Adjudication, step, world_after, run}
+use Rattle.claim_model.specs.Node.{Node, Outcome, Done, Refused}
+use Rattle.claim_model.specs.World.{World, Packet, Event, Submission, Ticking, Delivery, Stopping, Starting, PlanChange, Adjudication, step, world_after}
 use Rattle.claim_model.specs.Settings.{WorldSettings, Accepts, opening}
 use Rattle.claim_model.specs.Nodes.{Asked, same_node, asked, taking, adjudicating}
 use Rattle.claim_model.specs.Held.{asked as asked_for}
 use Rattle.claim_model.specs.Logs.{Logged, NodeLog, logged_if, logged_by, log_in}
 use Rattle.claim_model.specs.Interleavings.{IsInterleaving}
 use Rattle.claim_model.proofs.Lists.{all_at, all_from, all_append}
-use Rattle.claim_model.proofs.Options.{map_some, same_some, same_ok}
+use Rattle.claim_model.proofs.Options.{same_some, same_ok}
 use Rattle.claim_model.proofs.Sound.{Sound}
 use Rattle.claim_model.proofs.Held.{journal_sound, requests_submitted}
 use Rattle.claim_model.proofs.Owners.{asker}
 use Rattle.claim_model.proofs.Runs.{run_sound, opening_sound}
-use Rattle.settings_growth.specs.Growth.{IsOfPharmacy, IsOwnPacket, IsOwnCall, HasOwnCalls}
+use Rattle.settings_growth.specs.Growth.{IsOwnPacket, IsOwnCall, HasOwnCalls}
 
 -- a packet's request is of the pharmacy that asked for it
 own_packet : (ctx : Context) (s : WorldSettings) (w : World) (k : ℕ) (p : Packet) → Laws ctx → Sound ctx s w → numbered w.packets k ≡ Some p → IsOwnPacket ctx s p.bytes

@@ -4,11 +4,11 @@ use Rattle.std.specs.Prelude.{flat_map}
 use Rattle.std.specs.List.{AllByRecursion}
 use mathlib.Core.Path.{ap₂}
 use Rattle.claim_model.specs.Context.{Context}
-use Rattle.claim_model.specs.Journal.{State, Waits, Has, Entry, Journal, circle, ticked_state, ticked, due_by, due_from, due}
+use Rattle.claim_model.specs.Journal.{State, Has, Entry, Journal, circle, ticked_state, ticked, due_by, due_from, due}
 use Rattle.claim_model.specs.Node.{Node, Up, AtRest, Tick, Sent, Outcome, Done, Refused, to_switch}
-use Rattle.claim_model.specs.World.{Packet, packet_from}
+use Rattle.claim_model.specs.World.{packet_from}
 use Rattle.claim_model.specs.Nodes.{AnyNode, OfPharmacy, OfSwitch, OfPayer, as_node, node_step}
-use Rattle.claim_model.specs.Logs.{Logged, node_after, replay, Makes, posted_by}
+use Rattle.claim_model.specs.Logs.{Logged, node_after, replay, Makes}
 use Rattle.settings_growth.specs.Ticks.{HasAnswer, HasNoOpenEntry, TickDoesNothing, HasNothingToSend, tick_that_sent, IsSameWithout}
 
 still_state : (phases : ℕ) (s : State) (a : List ℕ) → s ≡ Has a → ticked_state phases s ≡ s

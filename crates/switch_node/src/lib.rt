@@ -16,6 +16,7 @@ pub use bin_routes::{PayerNo, Routes};
 pub use claim_model::{Fault, Refusal};
 pub use envelope::{Envelope, TxnId};
 pub use fault::SettingFault;
+pub use packets::rejection;
 pub use routing::Routed;
 pub use settings::SwitchSettings;
 pub use switch::Switch;

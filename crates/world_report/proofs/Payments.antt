@@ -6,7 +6,6 @@ use Rattle.std.specs.List.{flat_map}
 use Rattle.claim_profile.specs.Authorization.{authorization_text}
 use Rattle.claim_profile.specs.Reject.{code_text}
 use Rattle.claim_profile.specs.declared.reject.Code.{Code}
-use Rattle.claim_profile.specs.declared.reject.Code.TheVariants.{Bin}
 use Rattle.claim_model.specs.Words.{Auth, Amounts}
 use Rattle.world_report.specs.Words.{behind_spaces}
 use Rattle.world_report.specs.Rulings.{amount_words, payment_words, codes_word}
@@ -38,12 +37,12 @@ codes_join a b c first more one two =
     ∙ ap (λ (t : List ℕ). a ++ t) (word_goes_on (code_text first) others ∙ ap (λ (w : List ℕ). behind_spaces (w ∷ [])) (sym (codes_word-cons first more)))))
 
 -- the codes of a list by its first, and what its others are
-pub codes_split_join : (a b c : List ℕ) (rejects : List Code) → 1 ≤ length rejects → b ≡ a ++ behind_spaces (code_text (get_or rejects 0 Bin) ∷ [])
+pub codes_split_join : (a b c : List ℕ) (rejects : List Code) (first : Code) → first ≡ get_or rejects 0 first → 1 ≤ length rejects → b ≡ a ++ behind_spaces (code_text first ∷ [])
     → c ≡ b ++ flat_map (λ (code : Code). 44 ∷ code_text code) (take (length rejects - 1) (drop 1 rejects)) → c ≡ a ++ behind_spaces (codes_word rejects ∷ [])
-codes_split_join a b c [] some one two = absurd (omega (arith, some))
-codes_split_join a b c (first ∷ more) some one two =
-    let all : take (length (first ∷ more) - 1) more ≡ more = take_all (length (first ∷ more) - 1) more (omega arith) in
-    codes_join a b c first more one (two ∙ ap (λ (cs : List Code). b ++ flat_map (λ (code : Code). 44 ∷ code_text code) cs) all)
+codes_split_join a b c [] first is some one two = absurd (omega (arith, some))
+codes_split_join a b c (head ∷ more) first is some one two =
+    let all : take (length (head ∷ more) - 1) more ≡ more = take_all (length (head ∷ more) - 1) more (omega arith) in
+    codes_join a b c head more (one ∙ ap (λ (x : Code). a ++ behind_spaces (code_text x ∷ [])) is) (two ∙ ap (λ (cs : List Code). b ++ flat_map (λ (code : Code). 44 ∷ code_text code) cs) all)
 
 -- no codes
 pub no_codes_join : (a b : List ℕ) (rejects : List Code) → length rejects < 1 → b ≡ a ++ behind_spaces ([] ∷ []) → b ≡ a ++ behind_spaces (codes_word rejects ∷ [])

@@ -118,7 +118,7 @@ fn put_codes(out: &mut Vec<u8>, codes: &[Code]) -> Result<(), AllocError>
     let [first, others @ ..] = codes else {
         return put_word(out, b"");
     };
-    put_word(out, &first.text())?;
+    put_word(out, first.text())?;
     put_more_codes(out, others)
 }
 
@@ -128,7 +128,7 @@ fn put_more_codes(out: &mut Vec<u8>, codes: &[Code]) -> Result<(), AllocError>
 {
     for code in codes {
         out.push(b',')?;
-        out.extend_from_slice(&code.text())?;
+        out.extend_from_slice(code.text())?;
     }
     Ok(())
 }

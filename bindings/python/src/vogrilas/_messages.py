@@ -180,9 +180,9 @@ class Ruling:
     copay: Optional[int] = None
     """What the patient pays, 505-F5."""
     total: Optional[int] = None
-    """Total paid, 509-F9: cost and fee, less the copay."""
+    """Total paid, 509-F9: of what a plan pays cost and fee, less the copay."""
     codes: tuple[str, ...] = ()
-    """Reject codes, 511-FB."""
+    """Reject codes, 511-FB: two or three digits and capital letters each."""
 
 
 @dataclass(frozen=True)

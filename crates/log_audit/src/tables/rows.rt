@@ -201,7 +201,7 @@ fn codes_text(alloc: Global, rejects: &[Code]) -> Result<Vec<u8>, AllocError>
     let [first, others @ ..] = rejects else {
         return Ok(text);
     };
-    text.extend_from_slice(&first.text())?;
+    text.extend_from_slice(first.text())?;
     put_more_codes(&mut text, others)?;
     Ok(text)
 }
@@ -212,7 +212,7 @@ fn put_more_codes(text: &mut Vec<u8>, rejects: &[Code]) -> Result<(), AllocError
 {
     for code in rejects {
         text.push(b' ')?;
-        text.extend_from_slice(&code.text())?;
+        text.extend_from_slice(code.text())?;
     }
     Ok(())
 }

@@ -1,20 +1,26 @@
 //! Adding a row that was kept, to a book that is made again.
 
-ghost use Rattle.std.specs.Prelude.{◌≡◌, ◌≢◌, true, ◌&&◌, nat_lt, is_none, length, Some, None, IfOk, IfErr, OnOk, OnErr};
+ghost use Rattle.std.specs.Prelude.{◌≡◌, ◌≢◌, true, ◌&&◌, nat_lt, is_none, length, Some, None, IfSome, IfOk, IfErr, OnOk, OnErr};
 ghost use Rattle.claim_model.specs.Book.{row_of};
 ghost use Rattle.payer_book.specs.declared.fault.RowFault.TheVariants.{OutOfMemory};
 ghost use Rattle.payer_book.specs.Books.{reading};
 ghost use Rattle.payer_book.specs.Added.{with_row, with_kept, added};
 ghost use Rattle.claim_model.specs.Laws.{AdvisesWell};
 ghost use Rattle.payer_book.specs.Entries.{IsEntry};
+ghost use Rattle.d0_segments.specs.Framing.{request_kind, transmission_of};
+ghost use Rattle.d0_segments.specs.FramedParts.{framed_parts};
+ghost use Rattle.claim_profile.specs.Readable.{readable_header};
 
 use crate::book::Book;
+use crate::book::hint::likely_said;
 use crate::book::row::Row;
 use crate::fault::RowFault;
 use crate::ruling::drafting::Draft;
 use crate::ruling::pricing::Prices;
 use claim_model::bytes_keep_laws;
 use claim_profile::{Answer, AnswerFault, check_readable, read_answer};
+use d0_header::RequestHeader;
+use d0_segments::Framed;
 use envelope::TxnId;
 use std::alloc::Global;
 
@@ -84,12 +90,68 @@ impl Book {
             Some(framed) => framed,
             None => return Err(RowFault::BadRow),
         };
+        match self.likely_row(alloc, draft, id, &framed, request, answer) {
+            Some(row) => Ok(row),
+            None => self.said_row(alloc, draft, id, &framed, request, answer),
+        }
+    }
+
+    /// The row of a readable request and its answer, whose parts are taken from where an answer most likely has them. None
+    /// where that leads to another answer, or to no row: then the answer has to be read.
+    fn likely_row(
+        &self,
+        alloc: Global,
+        draft: &mut Draft,
+        id: TxnId,
+        framed: &Framed<'_, RequestHeader>,
+        request: &[u8],
+        answer: &[u8],
+    ) -> Option<Row>
+        requires parts { transmission_of request_kind request.now ≡ Some (framed_parts framed.now) }
+        requires readable { readable_header request.now ≡ Some framed.now.header }
+        ensures made { IfSome result (λ row. IsEntry self.now row draft.new.changes.items) }
+        ensures id { IfSome result (λ row. row.id ≡ id) }
+        ensures row { IfSome result (λ row. with_kept self.now id request.now answer.now ≡ Some (with_row self.now row)) }
+    {
+        let asks = self.settings.asks();
+        let likely = [likely_said(asks, answer)?];
+        let prices = Prices::Kept {
+            asks,
+            said: &likely,
+        };
+        let row = self
+            .prepare(alloc, draft, id, framed, request, prices)
+            .ok()?;
+        if row.answer() == answer {
+            Some(row)
+        } else {
+            None
+        }
+    }
+
+    /// The same row by what its answer says.
+    fn said_row(
+        &self,
+        alloc: Global,
+        draft: &mut Draft,
+        id: TxnId,
+        framed: &Framed<'_, RequestHeader>,
+        request: &[u8],
+        answer: &[u8],
+    ) -> Result<Row, RowFault>
+        requires parts { transmission_of request_kind request.now ≡ Some (framed_parts framed.now) }
+        requires readable { readable_header request.now ≡ Some framed.now.header }
+        ensures made { IfOk result (λ row. IsEntry self.now row draft.new.changes.items) }
+        ensures id { IfOk result (λ row. row.id ≡ id) }
+        ensures row { IfOk result (λ row. with_kept self.now id request.now answer.now ≡ Some (with_row self.now row)) }
+        ensures fault { IfErr result (λ e. e ≢ OutOfMemory → with_kept self.now id request.now answer.now ≡ None) }
+    {
         let said = said(alloc, answer)?;
         let prices = Prices::Kept {
             asks: self.settings.asks(),
             said: said.rulings(),
         };
-        let row = self.prepare(alloc, draft, id, &framed, request, prices)?;
+        let row = self.prepare(alloc, draft, id, framed, request, prices)?;
         if row.answer() != answer {
             return Err(RowFault::BadRow);
         }

@@ -14,7 +14,7 @@ use crate::book::Book;
 use crate::ruling::drafting::Draft;
 use bin_routes::Routes;
 use claim_model::{Fault, bytes_keep_laws};
-use claim_profile::{AnswerFault, Ruling, read_answer};
+use claim_profile::{AnswerFault, Ruling, read_advice};
 use envelope::{Kind, TxnId, write};
 use octets::Octets;
 use std::alloc::{AllocError, Global};
@@ -117,7 +117,7 @@ fn advised(alloc: Global, routes: &Routes, advice: &[u8]) -> Result<Vec<Ruling>,
     ensures well { IfOk result (λ rulings. AdvisesWell rulings.items) }
 {
     bytes_keep_laws();
-    match read_answer(alloc, advice) {
+    match read_advice(alloc, advice) {
         Ok(answer) => Ok(answer.into_rulings()),
         Err(AnswerFault::OutOfMemory) => Err(AllocError),
         Err(_) => Ok(Vec::new(alloc)),

@@ -2,17 +2,18 @@
 
 ghost use Rattle.std.specs.Prelude.{◌≡◌, ◌&&◌, true, [], Some, OnOk};
 ghost use Rattle.std.specs.List.{list_all};
+ghost use Rattle.std.specs.Option.{option_map};
 ghost use Rattle.d0_segments.specs.FramedParts.{framed_parts};
 ghost use Rattle.claim_model.specs.Bytes.{order_in, orders_in};
 ghost use Rattle.claim_model.specs.Book.{serial_fits};
 ghost use Rattle.payer_book.specs.Faults.{LacksSerial};
-ghost use Rattle.payer_book.specs.Drafts.{pricing, ruling_on, rulings_on, IsDraft, next_ruling, AddsRuling, AddsChange, priced_after, auth_after, IsRulingThatFits, next_advised, advised_on};
+ghost use Rattle.payer_book.specs.Drafts.{pricing, ruling_on, rulings_on, IsDraft, next_ruling, AddsRuling, AddsChange, auth_after, IsRulingThatFits, next_advised, advised_on, price_seen};
 ghost use Rattle.claim_model.specs.Judgement.{priced, Pays};
 
 use crate::book::payments::Payments;
 use crate::ruling::changes::Change;
 use crate::ruling::judging::{Verdict, judge, rejected};
-use crate::ruling::pricing::Prices;
+use crate::ruling::pricing::{Price, Prices};
 use claim_model::{Fault, Refusal};
 use claim_profile::{Amounts, Claim, Code, Order, OrderFault, Ruling, order_at};
 use d0_header::RequestHeader;
@@ -85,8 +86,8 @@ impl Draft {
         ensures fits { OnOk result (serial_fits (next_ruling self.old payments.now prices.now order.now) ≡ true) }
         ensures fault { LacksSerial (serial_fits (next_ruling self.old payments.now prices.now order.now)) result }
     {
-        let advised = advised_on(payments, prices, self.changes.as_slice(), order);
-        let Some(ruling) = ruling_on(payments, prices, self.changes.as_slice(), order) else {
+        let Settled { ruling, advised } = settle(payments, prices, self.changes.as_slice(), order);
+        let Some(ruling) = ruling else {
             return Err(Fault::Refused(Refusal::SerialsUsedUp));
         };
         self.changes.push(Change::of(order, &ruling))?;
@@ -96,53 +97,55 @@ impl Draft {
     }
 }
 
-/// The ruling of the next place, after the changes of the places before; None where no serial number is left for it.
-#[tactic(auto, unfolding(crate::specs::Drafts::ruling_on))]
-fn ruling_on(
+/// What is settled of the next place.
+#[derive(Drop)]
+struct Settled {
+    /// Its ruling, after the changes of the places before; None where no serial number is left for it.
+    ruling: Option<Ruling>,
+    /// Whether it has the verdict that it wants.
+    advised: bool,
+}
+
+/// Settles the next place.
+#[tactic(auto, unfolding(crate::specs::Drafts::ruling_on, crate::specs::Drafts::advised_on))]
+fn settle(
     payments: &Payments,
     prices: &Prices<'_>,
     changes: &[Change],
     order: &Result<Order, OrderFault>,
-) -> Option<Ruling>
-    ensures { IsRulingThatFits (ruling_on payments.now (pricing prices.now) changes.now (order_in order.now)) result }
+) -> Settled
+    ensures ruling { IsRulingThatFits
+        (ruling_on payments.now (pricing prices.now) changes.now (order_in order.now)) result.ruling }
+    ensures advised { result.advised ≡ advised_on payments.now (pricing prices.now) changes.now (order_in order.now) }
 {
     match judge(payments, changes, order) {
-        Verdict::Unpriced(ruling) => Some(ruling),
-        Verdict::ToPrice(claim) => priced(payments, prices, changes, claim),
+        Verdict::Unpriced(ruling) => Settled {
+            ruling: Some(ruling),
+            advised: true,
+        },
+        Verdict::ToPrice(claim) => {
+            let price = prices.price(changes.len(), claim);
+            Settled {
+                advised: price.is_some(),
+                ruling: priced(payments, changes, claim, price),
+            }
+        }
     }
 }
 
-/// Whether the next place has the verdict that it wants.
-#[tactic(auto, unfolding(crate::specs::Drafts::advised_on))]
-fn advised_on(
-    payments: &Payments,
-    prices: &Prices<'_>,
-    changes: &[Change],
-    order: &Result<Order, OrderFault>,
-) -> bool
-    ensures { result ≡ advised_on payments.now (pricing prices.now) changes.now (order_in order.now) }
-{
-    match prices {
-        Prices::Plan(_) => true,
-        Prices::Kept { .. } => prices.advises(changes.len(), &judge(payments, changes, order)),
-    }
-}
-
-/// The ruling of a claim that is to be priced; None where it would be paid and no serial number is left.
+/// The ruling of a claim by its verdict; None where it would be paid and no serial number is left.
 fn priced(
     payments: &Payments,
-    prices: &Prices<'_>,
     changes: &[Change],
     claim: &Claim,
+    price: Option<Price>,
 ) -> Option<Ruling>
-    ensures { IsRulingThatFits (priced_after payments.now (pricing prices.now) changes.now claim.now) result }
+    ensures { IsRulingThatFits (priced (auth_after payments.now changes.now) claim.now (option_map price_seen price)) result }
 {
-    let Some(price) = prices.price(changes.len(), claim) else {
-        return Some(rejected(Code::NotCovered));
-    };
     match price {
-        Ok(amounts) => paid(payments, changes, claim, amounts),
-        Err(rejects) => Some(Ruling::Rejected { rejects }),
+        None => Some(rejected(Code::NotCovered)),
+        Some(Ok(amounts)) => paid(payments, changes, claim, amounts),
+        Some(Err(rejects)) => Some(Ruling::Rejected { rejects }),
     }
 }
 

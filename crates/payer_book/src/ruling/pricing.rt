@@ -3,9 +3,8 @@
 ghost use Rattle.std.specs.Prelude.{◌≡◌, cond, Some, None, slice_get};
 ghost use Rattle.std.specs.Option.{option_map};
 ghost use Rattle.claim_model.specs.Judgement.{Pays, planned, verdict_in};
-ghost use Rattle.payer_book.specs.Drafts.{ByPlan, pricing, price_at, price_seen, amounts_in, kept_verdict, advised_by, verdict};
+ghost use Rattle.payer_book.specs.Drafts.{ByPlan, pricing, price_at, price_seen, amounts_in, kept_verdict};
 
-use crate::ruling::judging::Verdict;
 use claim_profile::{Amounts, Claim, Code, Rejects, Ruling};
 use plan_rules::Plan;
 
@@ -27,16 +26,6 @@ impl Prices<'_> {
         match self {
             Prices::Plan(plan) => Some(by_plan(plan, claim)),
             Prices::Kept { asks, said } => kept_at(*asks, said, place, claim.fill.prescription),
-        }
-    }
-
-    /// Whether a place of the request, from 0, has the verdict that it wants.
-    pub(crate) fn advises(&self, place: usize, judged: &Verdict<'_>) -> bool
-        ensures { result ≡ advised_by (pricing self.now) place (verdict judged.now) }
-    {
-        match judged {
-            Verdict::Unpriced(_) => true,
-            Verdict::ToPrice(claim) => self.price(place, claim).is_some(),
         }
     }
 }

@@ -12,7 +12,7 @@ use Rattle.audit_run.proofs.judged.judged_logs.Goals as goal
 
 -- logs that were read are judged as what is asked says
 takes_on : (result : Result Judged AuditFault) (by : Judging) (text : List ℕ) (logs : List GivenLog) (read : Audited)
-    → IsRead text (given_for by logs) read.settings (logs_seen read.logs.items) (rests_seen read.rests.items) read.torn.items → IfOk result (λ (j : Judged). TakesRead by.alone read j)
+    → IsRead text (given_for by logs) read.settings (logs_seen read.logs.items) (rests_seen read.rests.items) read.torn.items → IfOk result (λ (j : Judged). TakesRead by.scope read j)
     → IfOk result (λ (j : Judged). Judges by text logs j)
 takes_on (Ok j) by text logs read given takes = record { read = read; given = given; takes = takes }
 takes_on (Err e) by text logs read given takes = takes

@@ -8,7 +8,7 @@ use Rattle.claim_profile.proofs.answer_reading.rulings_of.Goals as goal
 
 pub loop-group-init : goal.loop-group-init
 loop-group-init c = record {
-  read = rw c.clear.ensures.items (begins (rulings_in c.args.header.now (groups_of c.args.from.bytes.now)));
+  read = rw c.clear.ensures.items (begins (rulings_in c.args.by c.args.header.now (groups_of c.args.from.bytes.now)));
   left = c.requires;
 }
 
@@ -17,10 +17,10 @@ returns-in_err-ruling-clause-fault c =
     let h = c.args.header.now in
     let l = c.loop-group in
     let group = c.in-Some.group.bytes.now in
-    let total = rulings_in h (groups_of c.args.from.bytes.now) in
+    let total = rulings_in c.args.by h (groups_of c.args.from.bytes.now) in
     let p = err_from_is_err_and c.from_residual.result c.from_residual.ensures.1 in
     rw (p.1, p.2) (fails c.in_err-ruling.field-0.0 total
-    (ends h l.rulings.items (groups_of l.rest.bytes.now) (groups_of group) (shared_of group) c.in_err-ruling.field-0.0 total c.in-Some.ensures.groups c.in_err-ruling.ensures l.invariant.read))
+    (ends c.args.by h l.rulings.items (groups_of l.rest.bytes.now) (groups_of group) (shared_of group) c.in_err-ruling.field-0.0 total c.in-Some.ensures.groups c.in_err-ruling.ensures l.invariant.read))
 
 pub loop-group-preserved : goal.loop-group-preserved
 loop-group-preserved c =
@@ -28,10 +28,10 @@ loop-group-preserved c =
     let l = c.loop-group in
     let group = c.in-Some.group.bytes.now in record {
       read = rw c.in_ok-push.ensures.items
-          (goes_on h l.rulings.items (groups_of l.rest.bytes.now) (groups_of group) (shared_of group) c.in_ok-ruling.ruling (rulings_in h (groups_of c.args.from.bytes.now)) c.in-Some.ensures.groups c.in_ok-ruling.ensures l.invariant.read);
+          (goes_on c.args.by h l.rulings.items (groups_of l.rest.bytes.now) (groups_of group) (shared_of group) c.in_ok-ruling.ruling (rulings_in c.args.by h (groups_of c.args.from.bytes.now)) c.in-Some.ensures.groups c.in_ok-ruling.ensures l.invariant.read);
       left = omega (arith, l.invariant.left, ap (λ (gs : List (List SegmentParts)). length gs) c.in-Some.ensures.groups);
     }
 
 pub returns-clause-read : goal.returns-clause-read
 returns-clause-read c =
-    is_done c.args.header.now c.loop-group.rulings.items (groups_of c.loop-group.rest.bytes.now) (rulings_in c.args.header.now (groups_of c.args.from.bytes.now)) c.in_default.ensures.groups c.loop-group.invariant.read
+    is_done c.args.by c.args.header.now c.loop-group.rulings.items (groups_of c.loop-group.rest.bytes.now) (rulings_in c.args.by c.args.header.now (groups_of c.args.from.bytes.now)) c.in_default.ensures.groups c.loop-group.invariant.read

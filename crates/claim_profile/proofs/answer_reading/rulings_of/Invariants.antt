@@ -6,7 +6,7 @@ use Rattle.claim_profile.proofs.answer_reading.rulings_of.Given as goal
 
 abbrev pub invariant-loop-group : goal.invariant-loop-group
 invariant-loop-group l = record {
-  read : with_front l.rulings.items (rulings_in l.header (groups_of l.rest.bytes.now)) ≡ rulings_in l.header (groups_of l.fn.from.bytes.now);
+  read : with_front l.rulings.items (rulings_in l.by l.header (groups_of l.rest.bytes.now)) ≡ rulings_in l.by l.header (groups_of l.fn.from.bytes.now);
   left : l.left ≡ length (groups_of l.rest.bytes.now);
 }
 

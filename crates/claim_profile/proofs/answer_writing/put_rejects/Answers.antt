@@ -2,7 +2,7 @@ use Rattle.std.proofs.Common.{◌+◌, List, [], ◌∷◌, ◌++◌, length, ma
 use Rattle.std.proofs.lemmas.List.{take_all}
 use Rattle.d0_segments.specs.Texts.{fields_text, group_text}
 use Rattle.claim_profile.specs.declared.reject.Code.{Code}
-use Rattle.claim_profile.specs.declared.reject.Code.TheVariants.{Bin}
+use Rattle.claim_profile.specs.Reject.{code_text}
 use Rattle.claim_profile.specs.Answer.{code_field, reject_segment}
 use Rattle.claim_profile.proofs.Counting.{map-take_at}
 use Rattle.claim_profile.proofs.AnswerTexts.{code_written, rejects_written}
@@ -14,8 +14,9 @@ loop-code-preserved c =
     let i = c.loop-code.code-index in
     let begun = (c.args.text.now.items ++ (29 ∷ 30 ∷ 28 ∷ 65 ∷ 77 ∷ 50 ∷ 49 ∷ 28 ∷ 65 ∷ 78 ∷ 82 ∷ 28 ∷ 70 ∷ 65 ∷ [])) ++ (48 + length codes) ∷ [] in
     rw (c.in_ok-extend_from_slice-3.ensures.items, c.in_ok-extend_from_slice-2.ensures.items, c.loop-code.invariant, c.text.ensures)
-    (code_written begun (map code_field (take i codes)) (get_or codes i Bin)
-    ∙ ap (λ fs. begun ++ fields_text fs) (sym (map-take_at code_field codes i Bin c.loop-code-test.true)))
+    (ap (λ (x : Code). ((begun ++ fields_text (map code_field (take i codes))) ++ (28 ∷ 70 ∷ 66 ∷ [])) ++ code_text x) c.code-item.is
+    ∙ code_written begun (map code_field (take i codes)) (get_or codes i c.code-item.result)
+    ∙ ap (λ fs. begun ++ fields_text fs) (sym (map-take_at code_field codes i c.code-item.result c.loop-code-test.true)))
 
 pub returns : goal.returns
 returns c =

@@ -1,22 +1,13 @@
 use Rattle.std.proofs.Common.{◌≡◌, ℕ, ◌<◌, ◌≤◌, ◌^◌, ◌∙◌, ap, sym, subst, length, List, arith}
 use Rattle.std.proofs.lemmas.Result.{on_ok_weaker}
 use Rattle.envelope.specs.Txn.{Txn, IsTxn}
-use Rattle.payer_book.specs.Added.{kept_answer}
-use Rattle.kept_records.proofs.RowLoops.{row_joined, readable_short}
+use Rattle.kept_records.proofs.Made.{readable_short}
 use Rattle.kept_records.proofs.rows.put_row.Goals as goal
 
 pub put_text-requires : goal.put_text-requires
 put_text-requires c =
     let is = c.answer-answer.ensures.kept in
     subst (λ (t : List ℕ). length t ≤ 32768) (sym c.request.ensures) (readable_short c.args.row.now.request is.header is.reads)
-
-pub returns-clause-text : goal.returns-clause-text
-returns-clause-text c =
-    let row = c.args.row.now in
-    let pharmacy = rw (c.pharmacy.ensures.value, c.id-id.ensures) at c.in_ok-put_u16.ensures in
-    let number = rw (c.number.ensures.value, c.id-id.ensures) at c.in_ok-put_u64.ensures in
-    on_ok_weaker c.put_text-2.result (λ e. e ∙ row_joined c.args.out.now.items c.put_u16.new.out.items c.put_u64.new.out.items c.put_text.new.out.items row.id row.request (kept_answer row) c.request.result.now c.answer-answer.result.now
-    pharmacy number c.in_ok-put_text.ensures c.request.ensures c.answer-answer.ensures.text) c.put_text-2.ensures
 
 txn_from : (id : Txn) (p n : ℕ) → p ≡ id.pharmacy → n ≡ id.number → 0 < p → 0 < n → p < 2 ^ 16 → n < 2 ^ 64 → IsTxn id
 txn_from id p n is is' some some' fits fits' = record { some_pharmacy = omega arith; some_number = omega arith; pharmacy_fits = omega arith; number_fits = omega arith }

@@ -21,5 +21,5 @@ returns-in-Ok-clause-text g c =
     (rw c.as_slice.ensures.value at c.all_made-made.ensures)
     ∙ (all_seen lone_seen makes c.in_ok-lones.lones.items ∙ ap (λ (lones : List Lone). list_all makes lones) c.in_ok-lones.ensures) in
     (rw c.as_slice-2.ensures.value at (c.in-Ok.ensures (routes_of a.settings.routes.items)))
-    ∙ (ap (λ (lones : List Lone). out ++ lones_text (context_for a.settings) a c.all_made-made.result lones c.args.form) c.in_ok-lones.ensures
-    ∙ ap (λ (b : Bool). out ++ lones_text (context_for a.settings) a b (lones_of a) c.args.form) made)
+    ∙ (ap (λ (lones : List Lone). out ++ lones_text (context_for a.settings) a c.all_made-made.result lones c.args.last.now c.args.form) c.in_ok-lones.ensures
+    ∙ ap (λ (b : Bool). out ++ lones_text (context_for a.settings) a b (lones_of a) c.args.last.now c.args.form) made)

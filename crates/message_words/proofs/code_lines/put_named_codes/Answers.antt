@@ -10,8 +10,9 @@ pub loop-code-preserved : goal.loop-code-preserved
 loop-code-preserved c = λ n rest.
     let i = c.loop-code.code-index in
     let all : List Code = c.args.rejects.now in
-    c.loop-code.invariant n (subst (λ (cs : List Code). Takes (named_codes c.loop-code.front.now cs) c.loop-code.out n) (sym (drop_more all i _ (omega (arith, c.loop-code-test.true))))
-    (both (named_code c.loop-code.front.now (get_or all i _)) (named_codes (codes "; ") (drop (i + 1) all)) c.loop-code.out c.put_named_code.new.out n c.put_named_code.ensures rest))
+    c.loop-code.invariant n (subst (λ (cs : List Code). Takes (named_codes c.loop-code.front.now cs) c.loop-code.out n) (sym (drop_more all i c.code-item.result (omega (arith, c.loop-code-test.true))))
+    (both (named_code c.loop-code.front.now (get_or all i c.code-item.result)) (named_codes (codes "; ") (drop (i + 1) all)) c.loop-code.out c.put_named_code.new.out n
+    (subst (λ (x : Code). Takes (named_code c.loop-code.front.now x) c.loop-code.out c.put_named_code.new.out) c.code-item.is c.put_named_code.ensures) rest))
 
 pub returns : goal.returns
 returns c =

@@ -12,8 +12,9 @@ pub loop-code-preserved : goal.loop-code-preserved
 loop-code-preserved c = λ n rest.
     let i = c.loop-code.code-index in
     let all : List Code = c.args.rejects.now in
-    c.loop-code.invariant n (subst (λ (cs : List Code). Takes (json_letters (plain_codes c.loop-code.front.now cs)) c.loop-code.out n) (sym (drop_more all i _ (omega (arith, c.loop-code-test.true))))
-    (letters_both (c.loop-code.front.now ++ code_text (get_or all i _)) (plain_codes (codes " ") (drop (i + 1) all)) c.loop-code.out c.put_plain_code.new.out n c.put_plain_code.ensures rest))
+    c.loop-code.invariant n (subst (λ (cs : List Code). Takes (json_letters (plain_codes c.loop-code.front.now cs)) c.loop-code.out n) (sym (drop_more all i c.code-item.result (omega (arith, c.loop-code-test.true))))
+    (letters_both (c.loop-code.front.now ++ code_text (get_or all i c.code-item.result)) (plain_codes (codes " ") (drop (i + 1) all)) c.loop-code.out c.put_plain_code.new.out n
+    (subst (λ (x : Code). Takes (json_letters (c.loop-code.front.now ++ code_text x)) c.loop-code.out c.put_plain_code.new.out) c.code-item.is c.put_plain_code.ensures) rest))
 
 pub returns : goal.returns
 returns c =

@@ -9,5 +9,5 @@ returns-in_default c = on_ok_weaker c.put_word.result (λ last. no_codes_join c.
 pub returns : goal.returns
 returns c =
     on_ok_weaker c.put_more_codes.result
-    (λ last. codes_split_join c.args.out.now.items c.put_word-2.new.out.items c.put_more_codes.new.out.items c.args.codes.now (omega arith) (rw c.text.ensures at c.in_ok-put_word.ensures) last)
+    (λ last. codes_split_join c.args.out.now.items c.put_word-2.new.out.items c.put_more_codes.new.out.items c.args.codes.now c.first-item.result c.first-item.is (omega arith) (rw c.text.ensures at c.in_ok-put_word.ensures) last)
     c.put_more_codes.ensures

@@ -1,0 +1,14 @@
+pub mod Turning
+pub mod Ordering
+pub mod Beginning
+pub mod Carrying
+pub mod Firsts
+pub mod Begins
+pub mod Placed
+pub mod Judging
+pub mod NextRows
+pub mod ReadStates
+pub mod BegunStates
+pub mod DaysPromised
+pub mod Accepted
+pub mod Agreed
