@@ -133,11 +133,13 @@ def body_parts(body):
     """The kind of the call of a record, the bytes that it has, and of each packet that it sent the addressee and where its bytes begin and end."""
     kind, at = number(body, 0, 1)
     text = b""
-    if kind == 2:
+    if kind in (2, 8):
         _, at = node_in(body, at)
-    if kind in (0, 2, 5, 6):
+    if kind in (0, 2, 5, 6, 8):
         text, at = text_in(body, at)
         at += 4 if kind == 6 else 0
+    if kind == 8:
+        _, at = text_in(body, at)
     count, at = number(body, at, 8)
     sent = []
     for _ in range(count):
@@ -149,7 +151,7 @@ def body_parts(body):
 
 
 # What a call is, by its kind, and the letters of a node.
-CALLS = {0: "submission", 1: "tick", 2: "packet", 3: "stop", 4: "start", 5: "price", 6: "price"}
+CALLS = {0: "submission", 1: "tick", 2: "packet", 3: "stop", 4: "start", 5: "price", 6: "price", 8: "adjudication"}
 LETTERS = {"pharmacy": "ph", "switch": "sw", "payer": "pr"}
 
 
@@ -186,7 +188,7 @@ def calls_in(log):
         if kind == 0:
             submissions += 1
             row.update(carries="request", pharmacy=node.split(" ")[1], number=str(submissions))
-        elif kind == 2:
+        elif kind in (2, 8):
             row["from"] = called(node_in(body, 1)[0])
             row.update(
                 carries={1: "request", 2: "answer"}[text[3]],

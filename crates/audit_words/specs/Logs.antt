@@ -2,8 +2,8 @@
 use Rattle.std.specs.Prelude.{ℕ, Bool, List, [], ◌∷◌, ◌++◌, Option, Some, None, option_map, bytes_eq, codes, find, if◌then◌else◌}
 use Rattle.clap.specs.Words.{first_value}
 use Rattle.clap.specs.declared.parser.matches.Found.{Found}
-use Rattle.log_audit.specs.declared.change_tables.Changes.{Changes as Changing}
-use Rattle.log_audit.specs.declared.change_tables.Changes.TheVariants.{Prices, Terms}
+use Rattle.log_audit.specs.declared.plans.tables.Changes.{Changes as Changing}
+use Rattle.log_audit.specs.declared.plans.tables.Changes.TheVariants.{Prices, Terms}
 use Rattle.log_audit.specs.declared.report.Form.{Form}
 use Rattle.log_audit.specs.declared.report.Form.TheVariants.{Json, Csv, Changes, Schedule}
 use Rattle.log_audit.specs.declared.tables.table.Table.{Table}

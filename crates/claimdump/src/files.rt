@@ -1,55 +1,93 @@
 //! The files of a replay.
 
-ghost use Rattle.std.specs.Prelude.{◌≡◌, Some, IfOk};
-ghost use Rattle.world_settings.specs.Document.{document_seen, living_in};
+ghost use Rattle.std.specs.Prelude.{◌≡◌, None, Ok, Some, map, IfErr, IfOk};
+ghost use Rattle.std.specs.Str.Lines.{lines};
+ghost use Rattle.schedule.specs.Reading.{living_events_of};
 ghost use Rattle.settings_digest.specs.Digests.{digest_in};
-ghost use Rattle.claimdump.specs.Opening.{IsOpening};
+ghost use Rattle.world_core.specs.Parts.{context_of};
+ghost use Rattle.world_settings.specs.Document.{document_seen, living_in};
+ghost use Rattle.world_setup.specs.Seen.{event_seen};
+ghost use Rattle.claimdump.specs.Files.{file_seen, files_in, IsDump, IsRefusedFor, IsSettled, IsUnscheduled, IsUnsettled, no_world};
+ghost use Rattle.claimdump.specs.Runs.{IsRun};
 
 use crate::fault::DumpFault;
-use crate::file::DumpFile;
-use crate::names::file_name;
-use crate::recorded::{Recorded, number_of};
-use kept_logs::{SettingsDigest, write_log};
-use node_log::NodeLog;
-use node_state::{PayerNode, PharmacyNode};
+use crate::file::{DumpFile, FileName};
+use crate::node_logs::NodeLogs;
+use crate::putting::{put_log_files, put_records};
+use crate::recorded::Recorded;
+use kept_logs::SettingsDigest;
 use schedule::{ScheduleFault, divide, read_living_schedule};
 use settings_digest::said;
 use std::alloc::{AllocError, Global};
 use world_core::World;
 use world_settings::{SettingsFault, living_settings_fault, read_living_settings};
-use world_setup::{Event, Fault, Node, WorldFault, WorldSettings};
+use world_setup::{CheckedSettings, Event, WorldFault, WorldSettings};
 
-/// The files of a replay: `settings.toml`; of each node its log, as `ph1.log`; of each pharmacy the record of its
-/// journal, as `ph1.journal`, and of each payer that of its book, as `pr1.book`, as they are after all events.
+/// The files of a replay: of each node its log; the settings; of each pharmacy the record of its journal, and of each payer
+/// that of its book, as they leave them that stop after all events.
 ///
 /// # Errors
 /// `Settings`, then `World`, then `Line` of the first line that spells no event; `OutOfMemory`.
-pub(crate) fn dump(alloc: Global, input: &[u8]) -> Result<Vec<DumpFile>, DumpFault> {
+pub(crate) fn dump(alloc: Global, input: &[u8]) -> Result<Vec<DumpFile>, DumpFault>
+    ensures dumped { IfOk result (λ files. IsDump input.now (map file_seen files.items)) }
+    ensures refused { IfErr result (λ fault. IsRefusedFor input.now fault) }
+{
     let parts = divide(alloc, input)?;
-    let (world, digest) = opened(alloc, parts.settings.as_slice())?;
-    let events = match read_living_schedule(alloc, parts.schedule) {
-        Ok(events) => events,
-        Err(ScheduleFault::OutOfMemory) => return Err(DumpFault::OutOfMemory),
-        Err(ScheduleFault::Line(number)) => return Err(DumpFault::Line(number)),
-    };
-    let recorded = recorded(alloc, world, events.as_slice())?;
+    let settings = settings_in(alloc, parts.settings.as_slice())?;
+    let events = events_in(alloc, parts.schedule)?;
+    let digest = digest_of(alloc, parts.settings.as_slice(), settings.settings())?;
+    let recorded = recorded(alloc, settings, events.as_slice())?;
     Ok(files_of(alloc, parts.settings, &digest, recorded)?)
 }
 
-/// The opening world of settings, and the digest of what they say.
-fn opened(alloc: Global, text: &[u8]) -> Result<(World, SettingsDigest), DumpFault>
-    ensures { IfOk result (λ opened. IsOpening text.now opened.0 opened.1) }
+/// The settings that a text spells, of which a world is made.
+fn settings_in(alloc: Global, text: &[u8]) -> Result<CheckedSettings, DumpFault>
+    ensures settled { IfOk result (λ settings. IsSettled text.now settings) }
+    ensures refused { IfErr result (λ fault. IsUnsettled text.now fault) }
 {
     let settings = match read_living_settings(alloc, text) {
         Ok(settings) => settings,
         Err(SettingsFault::OutOfMemory) => return Err(DumpFault::OutOfMemory),
         Err(SettingsFault::Settings) => return Err(why_refused(alloc, text)?),
     };
-    let digest = digest_of(alloc, text, &settings)?;
-    match World::new(alloc, settings) {
-        Ok(world) => Ok((world, digest)),
-        Err(WorldFault::OutOfMemory) => Err(DumpFault::OutOfMemory),
-        Err(fault) => Err(DumpFault::World(fault)),
+    match CheckedSettings::new(alloc, settings) {
+        Ok(settings) => Ok(settings),
+        Err(fault) => Err(no_world(fault)),
+    }
+}
+
+/// The fault of settings of which no world is made for this cause.
+fn no_world(fault: WorldFault) -> DumpFault
+    ensures { result ≡ no_world fault }
+{
+    match fault {
+        WorldFault::OutOfMemory => DumpFault::OutOfMemory,
+        WorldFault::TooMany => DumpFault::World(fault),
+        WorldFault::NoNode => DumpFault::World(fault),
+        WorldFault::SameProvider => DumpFault::World(fault),
+        WorldFault::BadRoute(_) => DumpFault::World(fault),
+    }
+}
+
+/// What is wrong in a text that spells no settings.
+fn why_refused(alloc: Global, text: &[u8]) -> Result<DumpFault, AllocError>
+    ensures { IfOk result (λ fault. living_in text.now ≡ None → IsUnsettled text.now fault) }
+{
+    match living_settings_fault(alloc, text)? {
+        Some(why) => Ok(DumpFault::Settings(why)),
+        None => Ok(DumpFault::Settings(String::from_str(alloc, "they are none")?)),
+    }
+}
+
+/// The events that the lines of a schedule spell.
+fn events_in(alloc: Global, schedule: &[u8]) -> Result<Vec<Event>, DumpFault>
+    ensures read { IfOk result (λ events. living_events_of (lines schedule.now) ≡ Ok events.items) }
+    ensures refused { IfErr result (λ fault. IsUnscheduled (lines schedule.now) fault) }
+{
+    match read_living_schedule(alloc, schedule) {
+        Ok(events) => Ok(events),
+        Err(ScheduleFault::OutOfMemory) => Err(DumpFault::OutOfMemory),
+        Err(ScheduleFault::Line(number)) => Err(DumpFault::Line(number)),
     }
 }
 
@@ -66,93 +104,40 @@ fn digest_of(
     Ok(SettingsDigest::of_said(text.as_slice()))
 }
 
-/// What is wrong in settings that spell none.
-fn why_refused(alloc: Global, text: &[u8]) -> Result<DumpFault, AllocError> {
-    match living_settings_fault(alloc, text)? {
-        Some(why) => Ok(DumpFault::Settings(why)),
-        None => Ok(DumpFault::Settings(String::from_str(alloc, "they are none")?)),
-    }
-}
-
-/// A world after these events, with the logs of its nodes.
-fn recorded(alloc: Global, world: World, events: &[Event]) -> Result<Recorded, AllocError> {
-    let mut recorded = Recorded::new(alloc, world)?;
-    for event in events {
-        recorded.make(event)?;
-    }
+/// The world after a run of these events from settings, with the logs of its nodes.
+fn recorded(
+    alloc: Global,
+    settings: CheckedSettings,
+    events: &[Event],
+) -> Result<Recorded, AllocError>
+    ensures { IfOk result (λ recorded. IsRun settings (map event_seen events.now) recorded) }
+{
+    let logs = NodeLogs::opening(alloc, &settings)?;
+    let world = World::opening(alloc, settings)?;
+    let mut recorded = Recorded { world, logs };
+    recorded.make_all(alloc, events)?;
     Ok(recorded)
 }
 
-/// The files of a world and its logs. Its nodes are stopped then, since a record is what a node leaves that stops.
+/// The files of a world and the logs of its nodes, under the settings of a text, which have this digest.
 fn files_of(
     alloc: Global,
-    settings: Vec<u8>,
+    text: Vec<u8>,
     digest: &SettingsDigest,
     recorded: Recorded,
-) -> Result<Vec<DumpFile>, AllocError> {
+) -> Result<Vec<DumpFile>, AllocError>
+    ensures { IfOk result (λ files. map file_seen files.items
+        ≡ files_in (context_of recorded.world) text.items digest.now recorded.world.world recorded.logs) }
+{
+    let Recorded { world, logs } = recorded;
     let mut files = Vec::new(alloc);
-    for log in &recorded.logs {
-        files.push(log_file(alloc, digest, log)?)?;
-    }
-    let name = String::from_str(alloc, "settings.toml")?;
+    put_log_files(alloc, &mut files, digest, logs.pharmacies())?;
+    put_log_files(alloc, &mut files, digest, logs.switches())?;
+    put_log_files(alloc, &mut files, digest, logs.payers())?;
     files.push(DumpFile {
-        name,
-        bytes: settings,
+        name: FileName::Settings,
+        bytes: text,
     })?;
-    let Recorded { mut world, .. } = recorded;
-    add_records(alloc, &mut files, &mut world)?;
+    put_records(alloc, &mut files, world, &logs)?;
     Ok(files)
-}
-
-/// Adds the record of each journal and each book.
-fn add_records(
-    alloc: Global,
-    files: &mut Vec<DumpFile>,
-    world: &mut World,
-) -> Result<(), AllocError> {
-    for place in 0..world.pharmacies().len() {
-        let node = Node::Pharmacy(number_of(place));
-        stop(world, node)?;
-        let record = world.pharmacies().get(place).and_then(PharmacyNode::record);
-        add_record(alloc, files, node, "journal", record)?;
-    }
-    for place in 0..world.payers().len() {
-        let node = Node::Payer(number_of(place));
-        stop(world, node)?;
-        let record = world.payers().get(place).and_then(PayerNode::record);
-        add_record(alloc, files, node, "book", record)?;
-    }
-    Ok(())
-}
-
-/// Stops a node; one that is down stays so.
-fn stop(world: &mut World, node: Node) -> Result<(), AllocError> {
-    match world.step(&Event::Stop(node)) {
-        Err(Fault::OutOfMemory) => Err(AllocError),
-        _ => Ok(()),
-    }
-}
-
-/// Adds the file of a record, if there is one.
-fn add_record(
-    alloc: Global,
-    files: &mut Vec<DumpFile>,
-    node: Node,
-    ending: &str,
-    record: Option<&[u8]>,
-) -> Result<(), AllocError> {
-    let Some(bytes) = record else {
-        return Ok(());
-    };
-    let name = file_name(alloc, node, ending)?;
-    let bytes = Vec::from_slice(alloc, bytes)?;
-    files.push(DumpFile { name, bytes })?;
-    Ok(())
-}
-
-/// The file of a log.
-fn log_file(alloc: Global, digest: &SettingsDigest, log: &NodeLog) -> Result<DumpFile, AllocError> {
-    let name = file_name(alloc, log.node(), "log")?;
-    let bytes = write_log(alloc, digest, log)?;
-    Ok(DumpFile { name, bytes })
 }

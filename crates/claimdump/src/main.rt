@@ -7,7 +7,8 @@ mod fault;
 mod file;
 mod files;
 mod finding;
-mod names;
+mod node_logs;
+mod putting;
 mod recorded;
 mod words;
 

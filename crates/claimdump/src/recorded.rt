@@ -1,12 +1,12 @@
 //! A world, and the log of each of its nodes.
 
-ghost use Rattle.std.specs.Prelude.{◌≡◌, ◌+◌, ◌<◌, [], ◌∷◌, ◌++◌, map, OnOk};
-ghost use Rattle.world_setup.specs.Seen.{call_seen, packet_seen, sent_seen};
-ghost use Rattle.node_log.specs.LogSeen.{log_seen, with_call};
-ghost use Rattle.claimdump.specs.Calls.{sent_as};
+ghost use Rattle.std.specs.Prelude.{◌≡◌, ◌-◌, [], ◌∷◌, ◌++◌, drop, map, option_map, IfOk, OnOk};
+ghost use Rattle.world_setup.specs.Seen.{event_seen, packet_seen, sent_seen};
+ghost use Rattle.claimdump.specs.Calls.{asked_of, sent_as};
+ghost use Rattle.claimdump.specs.Recorded.{IsAfter, noted, sent_from};
 
 use crate::calls::call_of;
-use node_log::NodeLog;
+use crate::node_logs::NodeLogs;
 use std::alloc::{AllocError, Global};
 use world_core::World;
 use world_setup::{Call, Event, Fault, Node, Packet, Sent};
@@ -14,81 +14,71 @@ use world_setup::{Call, Event, Fault, Node, Packet, Sent};
 /// A world, and the log of each of its nodes.
 #[derive(Drop)]
 pub(crate) struct Recorded {
-    alloc: Global,
     pub(crate) world: World,
-    pub(crate) logs: Vec<NodeLog>,
+    pub(crate) logs: NodeLogs,
 }
 
 impl Recorded {
-    /// A world as it opens, and a log of no calls for each node.
-    pub(crate) fn new(alloc: Global, world: World) -> Result<Recorded, AllocError> {
-        let mut logs = Vec::new(alloc);
-        for place in 0..world.pharmacies().len() {
-            logs.push(NodeLog::new(alloc, Node::Pharmacy(number_of(place))))?;
+    /// Makes these events, and records the call of each that is accepted.
+    pub(crate) fn make_all(&mut self, alloc: Global, events: &[Event]) -> Result<(), AllocError>
+        ensures { OnOk result (IsAfter (map event_seen events.now) self.old self.new) }
+    {
+        for event in events {
+            self.make(alloc, event)?;
         }
-        for place in 0..world.switches().len() {
-            logs.push(NodeLog::new(alloc, Node::Switch(number_of(place))))?;
-        }
-        for place in 0..world.payers().len() {
-            logs.push(NodeLog::new(alloc, Node::Payer(number_of(place))))?;
-        }
-        Ok(Recorded { alloc, world, logs })
+        Ok(())
     }
 
     /// Makes an event, and records its call where it is accepted.
-    pub(crate) fn make(&mut self, event: &Event) -> Result<(), AllocError> {
+    fn make(&mut self, alloc: Global, event: &Event) -> Result<(), AllocError>
+        ensures { OnOk result (IsAfter (event_seen event.now ∷ []) self.old self.new) }
+    {
+        let asked = call_of(self.world.packets(), event)?;
         match self.world.step(event) {
-            Ok(numbers) => self.record(event, numbers.start),
+            Ok(numbers) => self.note(alloc, asked, numbers.start),
             Err(Fault::OutOfMemory) => Err(AllocError),
-            Err(_) => Ok(()),
+            Err(Fault::Refused(_)) => Ok(()),
         }
     }
 
-    /// Records the call of an accepted event with the packets from this number on.
-    fn record(&mut self, event: &Event, first: u64) -> Result<(), AllocError> {
-        let Some((node, call)) = call_of(self.world.packets(), event)? else {
+    /// Records a call that was asked for and accepted, with the packets from this number on.
+    fn note(
+        &mut self,
+        alloc: Global,
+        asked: Option<(Node, Call)>,
+        first: u64,
+    ) -> Result<(), AllocError>
+        ensures world { self.new.world ≡ self.old.world }
+        ensures logs { OnOk result (self.new.logs
+            ≡ noted (option_map asked_of asked) (sent_from self.old.world.world.packets first) self.old.logs) }
+    {
+        let Some((node, call)) = asked else {
             return Ok(());
         };
-        let sent = sent_from(self.alloc, self.world.packets(), first)?;
-        enter(self.logs.as_mut_slice(), node, call, sent)
+        let sent = sent_from(alloc, self.world.packets(), first)?;
+        self.logs.record(node, call, sent)
     }
-}
-
-/// The number of the node at a place among those of its kind, of which there are at most 65,535.
-pub(crate) fn number_of(place: usize) -> u16
-    ensures { place < 65535 → result ≡ place + 1 }
-{
-    if place < 65_535 { place as u16 + 1 } else { 0 }
-}
-
-/// Enters a call in the log of a node.
-fn enter(logs: &mut [NodeLog], node: Node, call: Call, sent: Vec<Sent>) -> Result<(), AllocError> {
-    for log in logs.iter_mut() {
-        if log.is_of(node) {
-            return put(log, call, sent);
-        }
-    }
-    Ok(())
-}
-
-/// Records a call in a log.
-fn put(log: &mut NodeLog, call: Call, sent: Vec<Sent>) -> Result<(), AllocError>
-    ensures { OnOk result (log_seen log.new
-        ≡ with_call (log_seen log.old) (record { call = call_seen call; sent = map sent_seen sent.items })) }
-{
-    log.reserve()?;
-    log.record(call, sent);
-    Ok(())
 }
 
 /// The packets from a number on, as they were sent.
-fn sent_from(alloc: Global, packets: &[Packet], first: u64) -> Result<Vec<Sent>, AllocError> {
+fn sent_from(alloc: Global, packets: &[Packet], first: u64) -> Result<Vec<Sent>, AllocError>
+    ensures { IfOk result (λ all. map sent_seen all.items ≡ sent_from (map packet_seen packets.now) first) }
+{
     let mut all = Vec::new(alloc);
-    let start = (first as usize).saturating_sub(1);
-    for packet in packets.get(start..).unwrap_or(&[]) {
+    for packet in behind(packets, first) {
         push_sent(&mut all, packet)?;
     }
     Ok(all)
+}
+
+/// The packets from a number on.
+fn behind(packets: &[Packet], first: u64) -> &[Packet]
+    ensures { result.now ≡ drop (first - 1) packets.now }
+{
+    match packets.get((first as usize).saturating_sub(1)..) {
+        Some(packets) => packets,
+        None => &[],
+    }
 }
 
 /// Appends a packet.

@@ -3,12 +3,11 @@
 
 ghost use Rattle.claimswitch.specs.declared.End.TheVariants as end;
 
-use claims_read::read_claims_keyed;
 use payer_book::HashKeys;
 use program_io::{
     KeptReader, ProgramFault, ReaderSource, Spelled, Stop, Word, WriterSink, why_refused, word_of,
 };
-use schedule_replay::replay_leaving;
+use read_and_replay::{read_claims, replay};
 use schedule_run::{RunFault, run_schedule_keyed};
 use std::alloc::{AllocError, Global};
 use std::fmt::{Display, Formatter};
@@ -151,7 +150,7 @@ fn why(
     fault: ProgramFault,
 ) -> Result<Option<String>, AllocError> {
     match word {
-        Word::Read => claims_read::why_refused(alloc, input, fault),
+        Word::Read => read_and_replay::why_refused(alloc, input, fault),
         Word::Replay => why_refused(alloc, Spelled::Events, input, fault),
         Word::Run => why_refused(alloc, Spelled::Commands, input, fault),
     }
@@ -167,12 +166,16 @@ where
     let keys = hash_keys(rt);
     let mut writer = rt.stdout();
     match word {
-        Word::Read => Ok(read_claims_keyed(alloc, &keys, reader, &mut writer)?),
+        Word::Read => {
+            let mut source = ReaderSource::new(reader);
+            let mut sink = WriterSink::new(&mut writer);
+            Ok(read_claims(alloc, &keys, &mut source, &mut sink)?)
+        }
         Word::Replay => {
             let mut source = ReaderSource::new(reader);
             let mut sink = WriterSink::new(&mut writer);
             let mut left = None;
-            let done = replay_leaving(alloc, &keys, &mut source, &mut sink, &mut left);
+            let done = replay(alloc, &keys, &mut source, &mut sink, &mut left);
             let _stays = ManuallyDrop::new(left);
             Ok(done?)
         }

@@ -6,8 +6,8 @@ use Rattle.table_text.specs.declared.layout.Style.TheVariants.{Csv}
 use Rattle.world_setup.specs.declared.settings.WorldSettings.{WorldSettings}
 use Rattle.log_audit.specs.Changes.{Placed, change_seen}
 use Rattle.log_audit.specs.ChangeTables.{change_rows, rows_behind}
-use Rattle.log_audit.specs.declared.change_tables.Changes.{Changes}
-use Rattle.log_audit.specs.declared.changes.Change.{Change as Kept}
+use Rattle.log_audit.specs.declared.plans.tables.Changes.{Changes}
+use Rattle.log_audit.specs.declared.plans.changes.Change.{Change as Kept}
 use Rattle.log_audit.proofs.Joining.{block_goes_on, block_ends}
 
 -- those of one change more, after the changes so far

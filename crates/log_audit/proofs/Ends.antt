@@ -37,7 +37,7 @@ use Rattle.log_audit.specs.Judged.{left_by, IsLegal}
 use Rattle.log_audit.specs.declared.judging.LegalRun.{LegalRun}
 use Rattle.log_audit.specs.Standing.{IsLeftBy, StandsBy, EachStands, AreByNumber, Enters, AreNumbered, IsInOrder, AreStanding}
 use Rattle.log_audit.specs.StandingSeen.{nodes_seen}
-use Rattle.log_audit.specs.declared.standing.ByNumber.{ByNumber}
+use Rattle.log_audit.specs.declared.judging.standing.ByNumber.{ByNumber}
 
 -- one log
 

@@ -6,8 +6,8 @@ use Rattle.claim_model.specs.Logs.{NodeLog}
 use Rattle.log_audit.specs.Sentences.{told_line, told_lines}
 use Rattle.log_audit.specs.Lacks.{lack_lines, lacks_up_to, kind_node}
 use Rattle.log_audit.specs.Ledger.{paid_up_to, paid_text}
-use Rattle.log_audit.specs.declared.missing.NodeKind.{NodeKind}
-use Rattle.log_audit.specs.declared.paid.PaidOnce.{PaidOnce}
+use Rattle.log_audit.specs.declared.judging.missing.NodeKind.{NodeKind}
+use Rattle.log_audit.specs.declared.report.paid.PaidOnce.{PaidOnce}
 use Rattle.log_audit.specs.declared.sentences.Manner.{Manner}
 
 -- what is said of the elements from a place on, is said of the one there and those after it

@@ -13,9 +13,9 @@ use Rattle.log_audit.specs.Lacks.{node_line, lack_word, line_of_lack, lack_of, l
 use Rattle.log_audit.specs.Wrongs.{FirstWrong, wrong_line, line_of_wrong, first_wrong, log_wrongs, wrong_lines}
 use Rattle.log_audit.specs.Waits.{Progress, next_of, wait_line, next_lines, held_lines, is_stuck, unordered, waiting_lines}
 use Rattle.log_audit.specs.Reasons.{or_else, reasons, NoneFound, LastReason}
-use Rattle.log_audit.specs.declared.missing.Lack.{Lack}
-use Rattle.log_audit.specs.declared.missing.NodeKind.{NodeKind}
-use Rattle.log_audit.specs.declared.missing.NodeKind.TheVariants as kinds
+use Rattle.log_audit.specs.declared.judging.missing.Lack.{Lack}
+use Rattle.log_audit.specs.declared.judging.missing.NodeKind.{NodeKind}
+use Rattle.log_audit.specs.declared.judging.missing.NodeKind.TheVariants as kinds
 
 -- a line does not begin as that one
 abbrev other : List ℕ → Bool

@@ -15,7 +15,7 @@ use Rattle.kept_logs.specs.Stamps.{Stamped}
 use Rattle.log_audit.specs.Names.{Use, fault_of, first_misnamed, is_submission, noted, or_more, use_before, uses_before, uses_from}
 use Rattle.log_audit.specs.NamesSeen.{Finds, all_noted, first_sorted, known_in, noted_in}
 use Rattle.log_audit.specs.declared.fault.ReferenceFault.{ReferenceFault}
-use Rattle.log_audit.specs.declared.referring.Misnamed.{Misnamed}
+use Rattle.log_audit.specs.declared.reading.referring.Misnamed.{Misnamed}
 
 -- ---- references in order
 

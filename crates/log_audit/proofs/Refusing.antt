@@ -14,7 +14,7 @@ use Rattle.log_audit.specs.declared.fault.AuditFault.TheVariants.{OutOfMemory, S
 use Rattle.log_audit.specs.Given.{AreLogs}
 use Rattle.log_audit.specs.Names.{IsMisnamed}
 use Rattle.log_audit.specs.Refused.{IsUnread, TakesNone, IsNoLog, AreNoLogs}
-use Rattle.log_audit.specs.declared.referring.MisnamedLog.{MisnamedLog}
+use Rattle.log_audit.specs.declared.reading.referring.MisnamedLog.{MisnamedLog}
 use Rattle.log_audit.proofs.LogReading.{as_many}
 
 -- no world takes the settings

@@ -3,9 +3,9 @@ use Rattle.std.specs.Prelude.{ℕ, List, Result, Ok, Err, map}
 use Rattle.claim_model.specs.Nodes.{AnyNode}
 use Rattle.node_log.specs.LogSeen.{log_seen}
 use Rattle.log_audit.specs.Lones as seen
-use Rattle.log_audit.specs.declared.alone.Came.{Came}
-use Rattle.log_audit.specs.declared.alone.Came.TheVariants.{Made, NotMade}
-use Rattle.log_audit.specs.declared.alone.Lone.{Lone}
+use Rattle.log_audit.specs.declared.alone.log.Came.{Came}
+use Rattle.log_audit.specs.declared.alone.log.Came.TheVariants.{Made, NotMade}
+use Rattle.log_audit.specs.declared.alone.log.Lone.{Lone}
 
 abbrev pub came_seen : Came → Result AnyNode (List ℕ)
 came_seen (Made node) = Ok node

@@ -26,7 +26,7 @@ call_word Stop = codes "stop"
 call_word Start = codes "start"
 call_word (Reprice (SetPrice product price)) = codes "price"
 call_word (Reprice (SetTerms fee copay)) = codes "terms"
-call_word (Adjudicate from bytes advice) = codes "packet"
+call_word (Adjudicate from bytes advice) = codes "adjudication"
 
 -- how many submissions a call is
 abbrev pub submissions_in : Call → ℕ

@@ -10,8 +10,8 @@ use Rattle.world_setup.specs.declared.settings.WorldSettings.{WorldSettings}
 use Rattle.log_audit.specs.Changes.{Placed, event_changes, log_changes}
 use Rattle.log_audit.specs.Prices.{price_names, price_rows}
 use Rattle.log_audit.specs.Terms.{terms_names, terms_rows}
-use Rattle.log_audit.specs.declared.change_tables.Changes.{Changes}
-use Rattle.log_audit.specs.declared.change_tables.Changes.TheVariants.{Prices, Terms}
+use Rattle.log_audit.specs.declared.plans.tables.Changes.{Changes}
+use Rattle.log_audit.specs.declared.plans.tables.Changes.TheVariants.{Prices, Terms}
 
 -- the names of the columns, of which that of the place is this one
 abbrev pub change_names : Changes → List ℕ → List (List ℕ)

@@ -4,9 +4,9 @@ use Rattle.claim_model.specs.Words.{Change, SetPrice, SetTerms}
 use Rattle.claim_model.specs.Logs.{Logged, NodeLog}
 use Rattle.claim_model.specs.Node.{Node, Pharmacy, Switch, Payer, Call, Submit, Tick, Take, Stop, Start, Reprice, Adjudicate}
 use Rattle.claim_model.specs.World.{Event, Submission, Ticking, Delivery, Stopping, Starting, PlanChange, Adjudication}
-use Rattle.log_audit.specs.declared.changes.Change.{Change as Kept}
-use Rattle.log_audit.specs.declared.changes.To.{To}
-use Rattle.log_audit.specs.declared.changes.To.TheVariants as to
+use Rattle.log_audit.specs.declared.plans.changes.Change.{Change as Kept}
+use Rattle.log_audit.specs.declared.plans.changes.To.{To}
+use Rattle.log_audit.specs.declared.plans.changes.To.TheVariants as to
 
 -- what a payer's plan has from here on; by its place among events, or among the calls of a log
 pub record Placed : Type 0 where

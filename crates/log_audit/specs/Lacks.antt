@@ -7,10 +7,10 @@ use Rattle.claim_model.specs.Node as node
 use Rattle.claim_model.specs.Settings.{WorldSettings}
 use Rattle.node_log.specs.There.{is_there}
 use Rattle.log_audit.specs.Sentences.{Words, Named, sentence}
-use Rattle.log_audit.specs.declared.missing.Lack.{Lack}
-use Rattle.log_audit.specs.declared.missing.Lack.TheVariants.{NoLog, SeveralLogs}
-use Rattle.log_audit.specs.declared.missing.NodeKind.{NodeKind}
-use Rattle.log_audit.specs.declared.missing.NodeKind.TheVariants.{Pharmacy, Switch, Payer}
+use Rattle.log_audit.specs.declared.judging.missing.Lack.{Lack}
+use Rattle.log_audit.specs.declared.judging.missing.Lack.TheVariants.{NoLog, SeveralLogs}
+use Rattle.log_audit.specs.declared.judging.missing.NodeKind.{NodeKind}
+use Rattle.log_audit.specs.declared.judging.missing.NodeKind.TheVariants.{Pharmacy, Switch, Payer}
 
 -- how many of some logs are those of a node
 abbrev pub count_of : List NodeLog → Node → ℕ

@@ -16,8 +16,8 @@ use Rattle.pharmacy_journal.specs.Listing.{Listed, listed}
 use Rattle.world_core.specs.Reading.{payment_at}
 use Rattle.log_audit.specs.Sentences.{Piece, Words, Number, sentence}
 use Rattle.log_audit.specs.Texts.{texts_from}
-use Rattle.log_audit.specs.declared.paid.PaidOnce.{PaidOnce}
-use Rattle.log_audit.specs.declared.paid.Sum.{Sum}
+use Rattle.log_audit.specs.declared.report.paid.PaidOnce.{PaidOnce}
+use Rattle.log_audit.specs.declared.report.paid.Sum.{Sum}
 
 -- cents, as far as 64 bits hold them
 abbrev pub in_cents : ℕ → ℕ

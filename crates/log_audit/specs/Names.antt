@@ -13,8 +13,8 @@ use Rattle.log_audit.specs.declared.fault.AuditFault.{AuditFault}
 use Rattle.log_audit.specs.declared.fault.AuditFault.TheVariants as audit
 use Rattle.log_audit.specs.declared.fault.ReferenceFault.{ReferenceFault}
 use Rattle.log_audit.specs.declared.fault.ReferenceFault.TheVariants.{NoSubmission, TooLong, Reused}
-use Rattle.log_audit.specs.declared.referring.Misnamed.{Misnamed}
-use Rattle.log_audit.specs.declared.referring.MisnamedLog.{MisnamedLog}
+use Rattle.log_audit.specs.declared.reading.referring.Misnamed.{Misnamed}
+use Rattle.log_audit.specs.declared.reading.referring.MisnamedLog.{MisnamedLog}
 
 abbrev pub is_submission : Call → Bool
 is_submission (Submit text) = true

@@ -6,7 +6,7 @@ use Rattle.std.specs.BTreeMap.{is_at}
 use Rattle.std.specs.BTreeSet.{insert_key}
 use Rattle.std.specs.Cmp.Lexicographic.{slice_cmp}
 use Rattle.log_audit.specs.Names.{Use, fault_of, or_more}
-use Rattle.log_audit.specs.declared.referring.Misnamed.{Misnamed}
+use Rattle.log_audit.specs.declared.reading.referring.Misnamed.{Misnamed}
 
 abbrev pub known_in : List ℕ → List (List ℕ) → Bool
 known_in name keys = list_any (is_at (slice_cmp nat_cmp name)) keys

@@ -13,7 +13,7 @@ use Rattle.log_audit.specs.declared.fault.AuditFault.{AuditFault}
 use Rattle.log_audit.specs.declared.fault.AuditFault.TheVariants.{OutOfMemory, Settings, World, Log, Reference, NoLine}
 use Rattle.log_audit.specs.Given.{AreLogs, Given, digest_of, read_by, read_given}
 use Rattle.log_audit.specs.Names.{misnamed_log}
-use Rattle.log_audit.specs.declared.referring.MisnamedLog.{MisnamedLog}
+use Rattle.log_audit.specs.declared.reading.referring.MisnamedLog.{MisnamedLog}
 
 -- a text spells settings that no world takes, for this cause
 pub record SpellsNoWorld (text : List ℕ) (why : WorldFault) : Type 0 where

@@ -13,7 +13,7 @@ use Rattle.world_setup.specs.declared.settings.WorldSettings.{WorldSettings}
 use Rattle.world_core.specs.NodeLists.{NodeLists}
 use Rattle.node_log.specs.Replayed.{replayed}
 use Rattle.run_merge.specs.Merged.{AllFit, FitsAlone}
-use Rattle.log_audit.specs.declared.standing.ByNumber.{ByNumber}
+use Rattle.log_audit.specs.declared.judging.standing.ByNumber.{ByNumber}
 
 -- a log fits its node, which is this one after it
 pub record IsLeftBy (s : WorldSettings) (log : NodeLog) (node : AnyNode) : Type 0 where

@@ -6,7 +6,7 @@ use Rattle.world_setup.specs.declared.settings.PayerSettings.{PayerSettings}
 use Rattle.world_setup.specs.declared.settings.WorldSettings.{WorldSettings}
 use Rattle.log_audit.specs.Changes.{Placed}
 use Rattle.log_audit.specs.Kinds.{number_member, optional_member}
-use Rattle.log_audit.specs.declared.terms.Terms.{Terms}
+use Rattle.log_audit.specs.declared.plans.terms.Terms.{Terms}
 
 -- the terms under the settings of a payer, where there is such a payer
 abbrev pub payer_terms : PayerSettings → Terms

@@ -3,9 +3,9 @@ use Rattle.std.specs.Prelude.{Option, Some, None, Result, Ok, Err}
 use Rattle.claim_model.specs.Nodes.{AnyNode}
 use Rattle.world_setup.specs.Seen.{node_seen}
 use Rattle.log_audit.specs.Wrongs as seen
-use Rattle.log_audit.specs.declared.wrongs.Wrong.{Wrong}
-use Rattle.log_audit.specs.declared.wrongs.Wrong.TheVariants.{Refused, Count, Addressee, Bytes}
-use Rattle.log_audit.specs.declared.wrongs.FirstWrong.{FirstWrong}
+use Rattle.log_audit.specs.declared.judging.wrongs.Wrong.{Wrong}
+use Rattle.log_audit.specs.declared.judging.wrongs.Wrong.TheVariants.{Refused, Count, Addressee, Bytes}
+use Rattle.log_audit.specs.declared.judging.wrongs.FirstWrong.{FirstWrong}
 
 abbrev pub wrong_seen : Wrong → seen.Wrong
 wrong_seen (Refused name) = seen.Refusal name.now

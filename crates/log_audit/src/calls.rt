@@ -203,7 +203,7 @@ fn call_word(call: &Call) -> &'static [u8]
         Call::Submit(_) => b"submission",
         Call::Tick => b"tick",
         Call::Take { .. } => b"packet",
-        Call::Adjudicate { .. } => b"packet",
+        Call::Adjudicate { .. } => b"adjudication",
         Call::Stop => b"stop",
         Call::Start => b"start",
         Call::Plan { .. } => b"price",

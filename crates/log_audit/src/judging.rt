@@ -1,5 +1,12 @@
 //! Whether logs are those of one legal run.
 
+pub(crate) mod missing;
+pub(crate) mod reasons;
+pub(crate) mod standing;
+pub(crate) mod waiting;
+pub(crate) mod walking;
+pub(crate) mod wrongs;
+
 ghost use Rattle.std.specs.Prelude.{◌≡◌, map, Some, IfOk};
 ghost use Rattle.bin_routes.specs.Table.{routes_of};
 ghost use Rattle.claim_model.specs.Settings.{opening};
@@ -10,7 +17,7 @@ ghost use Rattle.log_audit.specs.Judged.{IsFound, IsJudged, left_by};
 ghost use Rattle.log_audit.specs.Standing.{AreStanding};
 ghost use Rattle.log_audit.specs.StandingSeen.{nodes_seen};
 
-use crate::standing::nodes_left;
+use crate::judging::standing::nodes_left;
 use node_log::NodeLog;
 use run_merge::{MergeFault, MergedRun, merge, merge_fitting};
 use std::alloc::{AllocError, Global};

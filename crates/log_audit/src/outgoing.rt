@@ -1,5 +1,7 @@
 //! A text that goes out piece by piece.
 
+pub(crate) mod writer_sink;
+
 ghost use Rattle.std.specs.Prelude.{◌≡◌, ◌++◌, [], ◌∷◌, ◌<◌, ◌-◌, codes, length, take, drop, IfOk, OnOk};
 ghost use Rattle.log_audit.specs.Commas.{ends_in_comma, without_comma};
 

@@ -1,5 +1,8 @@
 //! What is read before anything is judged: the settings, and the logs.
 
+pub(crate) mod noted;
+pub(crate) mod referring;
+
 ghost use Rattle.std.specs.Prelude.{◌≡◌, ◌++◌, ◌∷◌, [], length, map, Some, None, Ok, IfOk, IfErr, OnOk};
 ghost use Rattle.std.specs.Option.{option_copied, option_map};
 ghost use Rattle.world_setup.specs.Taken.{world_fault};
@@ -12,7 +15,7 @@ ghost use Rattle.log_audit.specs.Names.{misnamed_log};
 ghost use Rattle.log_audit.specs.Refused.{AreNoLogs, IsNoLog, IsRefused, SpellsNone, TakesNone};
 
 use crate::fault::AuditFault;
-use crate::referring::check_references;
+use crate::reading::referring::check_references;
 use kept_logs::{LogFault, ReadLog, SettingsDigest, read_log};
 use node_log::NodeLog;
 use settings_digest::Digests;

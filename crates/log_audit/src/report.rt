@@ -1,5 +1,11 @@
 //! What is told of logs.
 
+pub(crate) mod ledger;
+pub(crate) mod left;
+pub(crate) mod object;
+pub(crate) mod paid;
+pub(crate) mod scheduling;
+
 ghost use Rattle.std.specs.Prelude.{◌≡◌, ◌++◌, true, false, codes, map, IfOk, IsOkAnd, OnOk};
 ghost use Rattle.world_setup.specs.Seen.{event_seen};
 ghost use Rattle.node_log.specs.LogSeen.{log_seen, logs_seen};
@@ -10,15 +16,15 @@ ghost use Rattle.log_audit.specs.Tabled.{run_csv};
 ghost use Rattle.log_audit.specs.Telling.{log_line, log_lines, legal_line, run_lines, run_object, IsSchedule, IsTextOf, IsNoRunLines, IsNoRunObject, IsUntold, IsWritten};
 ghost use Rattle.log_audit.specs.Outgoing.{Puts, PutsSome};
 
-use crate::change_tables::{Changes, run_changes_csv};
 use crate::fault::AuditFault;
+use crate::judging::reasons::reasons;
 use crate::judging::{Found, LegalRun, run_alone, run_and_world};
-use crate::left::{put_left_counts, put_left_table, tells_senders};
-use crate::object::{no_run_object, put_run_object, torn_at};
 use crate::outgoing::{Outgoing, TextSink};
+use crate::plans::tables::{Changes, run_changes_csv};
 use crate::reading::Audited;
-use crate::reasons::reasons;
-use crate::scheduling::scheduled;
+use crate::report::left::{put_left_counts, put_left_table, tells_senders};
+use crate::report::object::{no_run_object, put_run_object, torn_at};
+use crate::report::scheduling::scheduled;
 use crate::sentences::{Manner, Piece, put_pieces};
 use crate::tables::table::Table;
 use node_log::NodeLog;

@@ -32,7 +32,7 @@ pub enum CheckFault {
     Input(InputFault),
 }
 
-/// Why `read_claims_keyed` or a later program stopped. The text is that of the line on standard error.
+/// Why a program over standard input and output stopped. The text is that of the line on standard error.
 #[derive(Clone, Copy, Debug, PartialEq, Eq, Error)]
 pub enum ProgramFault {
     /// Memory was refused. What was written until then is a beginning of the output.

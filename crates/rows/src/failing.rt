@@ -1,10 +1,9 @@
 //! A flush that fails, and what else of failing reads and writes no program shows: how often a reader is called that never ends.
 
 use case_files::{ALL, Endless, Paper, Pieces, Subject, Told};
-use claims_read::read_claims_keyed;
 use payer_book::HashKeys;
-use program_io::{MOST_CALLS, ProgramFault, Word};
-use schedule_replay::replay_keyed;
+use program_io::{MOST_CALLS, ProgramFault, ReaderSource, Word, WriterSink};
+use read_and_replay::{read_claims, replay};
 use std::alloc::Global;
 use std::io::Read;
 
@@ -78,9 +77,12 @@ fn run<R: Read>(
     reader: &mut R,
     writer: &mut Paper,
 ) -> Result<(), ProgramFault> {
+    let keys = HashKeys::fixed();
+    let mut source = ReaderSource::new(reader);
+    let mut sink = WriterSink::new(writer);
     match word {
-        Word::Read => read_claims_keyed(alloc, &HashKeys::fixed(), reader, writer),
-        Word::Replay | Word::Run => replay_keyed(alloc, &HashKeys::fixed(), reader, writer),
+        Word::Read => read_claims(alloc, &keys, &mut source, &mut sink),
+        Word::Replay | Word::Run => replay(alloc, &keys, &mut source, &mut sink, &mut None),
     }
 }
 

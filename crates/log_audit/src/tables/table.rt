@@ -10,8 +10,8 @@ ghost use Rattle.log_audit.specs.TabledSeen.{tabled_rows};
 ghost use Rattle.log_audit.specs.Tables.{node_payments, node_entries, node_counted_rows, node_rulings, world_payments, table_rows, table_names, table_csv, table_name, table_member, table_members};
 ghost use Rattle.log_audit.specs.Outgoing.{PutsRows, TellsPut, TellsText};
 
-use crate::alone::Lone;
-use crate::lone_tables::put_lone_table;
+use crate::alone::log::Lone;
+use crate::alone::tables::put_lone_table;
 use crate::outgoing::{Outgoing, TextSink};
 use crate::tables::columns::{
     put_counted_names, put_entry_names, put_open_names, put_packet_names, put_payment_names,

@@ -1,0 +1,3 @@
+pub mod NodeLogs
+pub mod Recording
+mod Refusing

@@ -1,4 +1,0 @@
-pub mod Entries
-pub mod Sample
-pub mod Lines
-pub mod Said

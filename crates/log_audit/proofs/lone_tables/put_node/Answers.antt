@@ -1,5 +1,0 @@
-use Rattle.log_audit.proofs.Joining.{no_rows}
-use Rattle.log_audit.proofs.lone_tables.put_node.Goals as goal
-
-pub returns-in-Packets : goal.returns-in-Packets
-returns-in-Packets g c = λ routes. rw c.in-Packets.is (no_rows c.args.style c.args.out.now)

@@ -1,4 +1,0 @@
-use Rattle.log_audit.proofs.lone_tables.take_lone.Goals as goal
-
-pub returns-in-Made : goal.returns-in-Made
-returns-in-Made c = λ routes. rw c.in-Made.is (c.take_node.ensures routes)

@@ -1,0 +1,10 @@
+use Rattle.std.proofs.Common.{◌≡◌, ◌+◌, ◌^◌, ◌<◌, drop}
+use Rattle.log_audit.specs.Ledger.{in_cents, counted_total}
+use Rattle.log_audit.proofs.report.ledger.cents_of.Given as goal
+
+-- the cents so far, and those of the payments that are left
+abbrev pub invariant-loop-payment : goal.invariant-loop-payment
+invariant-loop-payment l = record {
+  all : in_cents (l.cents + counted_total (drop l.payment-index l.paid)) ≡ in_cents (counted_total l.paid);
+  fits : l.cents < 2 ^ 64;
+}

@@ -1,6 +1,0 @@
-use Rattle.log_audit.specs.Outgoing.{Took}
-use Rattle.log_audit.proofs.writer_sink.write_piece.Given as goal
-
--- what the writer took so far is noted, and the others are left
-abbrev pub invariant-loop : goal.invariant-loop
-invariant-loop g l = Took (g.W.Write.contents l.fn.writer) (g.W.Write.contents l.writer) l.fn.written.bytes l.written.bytes l.left l.piece

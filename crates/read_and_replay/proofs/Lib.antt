@@ -1,0 +1,3 @@
+pub mod SaidLines
+mod Begun
+pub mod RunLines
