@@ -26,11 +26,30 @@ def is_open(port: int) -> bool:
         return other.connect_ex(("127.0.0.1", port)) == 0
 
 
+# What keeps a port that was given from being given to anybody else before its server listens: a socket of another kind at it, open as long
+# as this process lives. Whoever asks for ports, in whichever process, binds one too.
+_KEPT: list[socket.socket] = []
+
+
+def _is_kept(port: int) -> bool:
+    """Whether a port is kept for this process from here on: nobody listens at it, and it was given to nobody."""
+    if is_open(port):
+        return False
+    kept = socket.socket(socket.AF_INET, socket.SOCK_DGRAM)
+    try:
+        kept.bind(("127.0.0.1", port))
+    except OSError:
+        kept.close()
+        return False
+    _KEPT.append(kept)
+    return True
+
+
 def free_ports(count: int) -> int:
     """The first of so many ports that nobody has, below those that the kernel gives to whoever connects."""
     while True:
         port = random.randint(12_000, 30_000)
-        if not any(is_open(port + it) for it in range(count)):
+        if all(_is_kept(port + it) for it in range(count)):
             return port
 
 

@@ -5,10 +5,8 @@ What a test wants and this machine does not have ends it with status 3, and says
 import asyncio
 import os
 import pathlib
-import random
 import re
 import shutil
-import socket
 import subprocess
 import sys
 import tempfile
@@ -20,6 +18,7 @@ HOSTS = TOP / "hosts"
 sys.path[:0] = [str(TOP / "tests"), str(TOP / "cases"), str(HOSTS)]
 import nats  # noqa: E402
 import programs  # noqa: E402
+from local_servers import free_ports, is_open  # noqa: E402
 from suite import networks  # noqa: E402
 
 SETTINGS = TOP / "examples" / "six-nodes.toml"
@@ -48,17 +47,8 @@ def expect(is_so, what):
 
 
 def free_port(count=1):
-    """A port of this machine behind which, with those that follow it, nobody listens. It is below those that the kernel gives to whoever
-    connects, which could be taken before a server has it."""
-    while True:
-        port = random.randint(12_000, 30_000)
-        if all(not is_open(port + it) for it in range(count)):
-            return port
-
-
-def is_open(port):
-    with socket.socket() as other:
-        return other.connect_ex(("127.0.0.1", port)) == 0
+    """A port of this machine that nobody has, as those that follow it."""
+    return free_ports(count)
 
 
 def wait_for(is_so, what, seconds=30.0):
