@@ -50,9 +50,9 @@ def payment_of(line: str) -> Payment:
 
 
 class Feed:
-    """A payer's book, as its host tells it. `asks` says whether the payer asks its own system, where that is known."""
+    """A payer's book, as its host tells it. `asks` says what the payer asks its own system about, or nothing, where that is known."""
 
-    def __init__(self, payer: str, ask: Callable[[bytes], Awaitable[bytes | None]], asks: bool | None = None) -> None:
+    def __init__(self, payer: str, ask: Callable[[bytes], Awaitable[bytes | None]], asks: str | None = None) -> None:
         self._payer, self._ask, self._asks = int(payer[2:]), ask, asks
         self._first_serial = 0
 
@@ -112,9 +112,16 @@ class Feed:
             told["reversed_by"] = payment.reversed_by if letter == "P" else None
         total = told.get("paid_cents", 0)
         told["cents"] = total if letter == "P" else -total if letter == "A" else 0
-        if self._asks is not None and (letter in "PD" or not OWN_CODES.issuperset(codes)):
-            told["by"] = "advice" if self._asks else "plan"
-        return told
+        by = self._by(letter, codes)
+        return told | {"by": by} if by else told
+
+    def _by(self, letter: str, codes: list[str]) -> str | None:
+        """What has ruled a place, where that is known and it is not the book itself."""
+        if self._asks is None:
+            return None
+        if letter == "P" or not OWN_CODES.issuperset(codes):
+            return "advice" if self._asks else "plan"
+        return "advice" if letter == "A" and self._asks == "all" else None
 
     async def rows(self, first: int, every: float | None) -> AsyncIterator[list[dict[str, Any]]]:
         """Each row from a number on, as a list of its transactions; all that there are, or with a number of seconds those that come too."""

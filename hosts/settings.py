@@ -104,9 +104,9 @@ class Settings:
         rows: list[dict[str, Any]] = self._given.get("route", [])
         return rows
 
-    def asks(self, payer: str) -> bool:
-        """Whether a payer asks its own system; ends the program where there is no such payer."""
-        return bool(self._one(payer).get("asks"))
+    def asks(self, payer: str) -> str:
+        """What a payer asks its own system about, `claims` or `all`, or nothing; ends the program where there is no such payer."""
+        return str(self._one(payer).get("asks", ""))
 
     def cap(self, node: str) -> int:
         """The most entries, slots or rows of a node; ends the program where there is no such node."""

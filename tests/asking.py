@@ -29,6 +29,8 @@ from network import expect, wait_for  # noqa: E402
 from suite import networks  # noqa: E402
 
 SETTINGS = networks.settings(((1, 2), (2, 1)), (60000, 60000), (60000, 60000), rows=60000, again=2, tries=2, asks=True)
+# The same of one that asks about reversals too, and tells what its system says beside its rulings.
+WIDE = SETTINGS.replace('asks = "claims"', 'asks = "all"') + '[answers]\nprofile = "wide"\n'
 NODES = ("ph1", "ph2", "sw1", "sw2", "pr1")
 # How long the host waits for a system, where a test says nothing else.
 WAIT_SECONDS = 1

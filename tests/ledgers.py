@@ -52,7 +52,8 @@ class Books:
         self.judge_engine(members)
         told = collections.Counter(it["ruling"] for it in self.rows)
         cents = sum(int(it["paid_cents"]) for it in standing)
-        return {"rows": len(self.rows), **told, "standing": len(standing), "cents": cents}
+        again = sum(b"\x1cANS" in (it["said"] or b"") for it in self.answers)
+        return {"rows": len(self.rows), **told, "approved again": again, "standing": len(standing), "cents": cents}
 
     def judge_ledger(self) -> None:
         """The ledger has each row of the book, and of each payment what it came to."""
@@ -90,17 +91,18 @@ class Books:
         return {"rows": len(self.rows), "open": sum(it["state"] != "answered" for it in self.entries)}
 
     def judge_advices(self) -> None:
-        """What was priced is ruled as the engine has answered to that very transaction; the book itself says duplicate and 83."""
+        """What was asked about is ruled as the engine has answered to that very transaction; the book itself says duplicate, 83 and 87."""
         said = {(it["pharmacy"], it["number"], it["place"]): bytes(it["said"]) for it in self.answers if it["said"]}
         amounts = {it["authorization"]: tuple(int(it[key]) for key in AMOUNTS) for it in self.payments}
         for it in self.rows:
             place = (int(it["pharmacy"]), int(it["number"]), int(it["transaction"]))
-            if it["kind"] != "billing" or it["ruling"] == "duplicate" or it["reject_codes"] == "83":
+            if it["ruling"] == "duplicate" or it["reject_codes"] in ("83", "87"):
                 continue
             expect(place in said, f"{place} was ruled, and the engine was not asked")
-            ruling = self.binding.Answer.read(said[place]).rulings[place[2] - 1]
+            # What it has approved before is approved.
+            ruling = self.binding.Answer.read(said[place].replace(b"\x1cANS", b"\x1cANA")).rulings[place[2] - 1]
             told = (ruling.ruling, *ruling.codes, ruling.cost, ruling.fee, ruling.copay, ruling.total)
-            paid = amounts.get(it["authorization"], (None,) * len(AMOUNTS))
+            paid = amounts[it["authorization"]] if it["ruling"] == "paid" else (None,) * len(AMOUNTS)
             found = (it["ruling"], *it["reject_codes"].split(), *paid)
             expect(told == found, f"{place} was ruled {found}, and the engine said {told}")
 

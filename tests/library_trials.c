@@ -635,6 +635,73 @@ static void try_asking(void) {
     }
 }
 
+/* A payer whose answers carry what an advice says beside its rulings, and that asks about reversals, also from its log and where memory is refused. */
+static void try_carrying(void) {
+    static const char told[] = "D0B11A011234567893     20240115\x1e\x1c" "AM20\x1c" "F4OPEN\x1d\x1e\x1c" "AM21\x1c" "ANP\x1c" "FQREFILL\x1e\x1c" "AM22\x1c" "EM1\x1c"
+                               "D2123456\x1e\x1c" "AM23\x1c" "F550{\x1c" "F6500{\x1c" "F715{\x1c" "F9465{";
+    static const char answer[] = "D0B11A011234567893     20240115\\S\\FAM20\\FF4OPEN\\G\\S\\FAM21\\FANP\\FF30001000000000001\\FFQREFILL\\S\\FAM22";
+    static const char reversal[] = "\x1d\x1e\x1c" "AM07\x1c" "EM1\x1c" "D2123456\x1c" "D30";
+    static const char denied[] = "D0B21A011234567893     20240115\x1d\x1e\x1c" "AM21\x1c" "ANR\x1c" "FA1\x1c" "FB86\x1c" "FQCALL";
+    static const char again[] = "D0B21A011234567893     20240115\x1d\x1e\x1c" "AM21\x1c" "ANS\x1e\x1c" "AM22\x1c" "EM1\x1c" "D2123456";
+    static char log[MOST], first[MOST];
+    const char *advices[] = { told, denied, again };
+    const size_t sizes[] = { sizeof told - 1, sizeof denied - 1, sizeof again - 1 };
+    const char *answers[] = { answer, "ANR\\FFA1\\FFB86\\FFQCALL\nok\n", "ANA\\FF30001000000000001\\S\\FAM22\\FEM1\\FD2123456\nok\n" };
+    const char *prices = strstr(settings, "[payer.prices]");
+    vogrilas_node node = VOGRILAS_NODE_INIT;
+    const size_t billing_size = packet_size;
+    size_t size = 0, kept_size = 0;
+    if (prices == NULL) exit(2);
+    asking_size = (size_t)snprintf(asking, MOST, "%.*sasks = \"all\"\n%s\n[answers]\nprofile = \"wide\"\n", (int)(prices - settings), settings, prices);
+    memcpy(first, packet, packet_size);
+    for (long turn = 0;; turn += each) {
+        open_payer(&node, asking, asking_size);
+        left = turn;
+        vogrilas_code code = adjudicate(&node, told, sizeof told - 1);
+        left = -1;
+        check(code == VOGRILAS_OK || (code == VOGRILAS_NO_MEMORY && is_closed(&node)), "memory refused while an answer carries more");
+        vogrilas_close(&node);
+        check(lent == 0, "memory is given back");
+        if (code == VOGRILAS_OK) break;
+    }
+    open_payer(&node, asking, asking_size);
+    memcpy(log, record, record_size);
+    size = record_size;
+    for (size_t at = 0; at < 3; at++) {
+        /* The billing as number 1, and its reversal as 2 and 3. */
+        if (at == 1) {
+            memcpy(packet + 18 + 8, "B2", 2);
+            memcpy(packet + 18 + 56, reversal, sizeof reversal - 1);
+            packet[17] = (char)(56 + sizeof reversal - 1);
+            packet_size = 18 + 56 + sizeof reversal - 1;
+        }
+        packet[13] = (char)(at + 1);
+        try_refused(&node, "x", 1, "refused NotAdvised\n");
+        check(adjudicate(&node, advices[at], sizes[at]) == VOGRILAS_OK, "an advice");
+        check(vogrilas_records(&node, log + size, MOST - size, &record_size) == VOGRILAS_OK && record_size > sizes[at], "its record");
+        size += record_size;
+        check(vogrilas_kept(&node, record_size) == VOGRILAS_OK && vogrilas_written(&node, said, MOST, &said_size) == VOGRILAS_OK, "its answer");
+        check(memmem_text(said, said_size, answers[at]), "what the system says, and beside it");
+        check(vogrilas_clear(&node) == VOGRILAS_OK, "clear");
+    }
+    vogrilas_close(&node);
+    for (long turn = 0;; turn += each) {
+        left = turn;
+        vogrilas_code code = vogrilas_open(&node, asking, asking_size, "pr1", 3, log, size, "", 0, &kept_size);
+        left = -1;
+        check(code == VOGRILAS_OK || (code == VOGRILAS_NO_MEMORY && is_closed(&node)), "memory refused while answers that carry more are read");
+        if (code == VOGRILAS_OK) break;
+        check(lent == 0, "memory is given back");
+    }
+    check(kept_size == size && vogrilas_kept(&node, 0) == VOGRILAS_OK, "the whole log");
+    memcpy(packet, first, packet_size = billing_size);
+    check(vogrilas_take(&node, "sw1", 3, packet, packet_size) == VOGRILAS_OK, "the billing once more");
+    check(vogrilas_records(&node, record, MOST, &record_size) == VOGRILAS_OK && vogrilas_kept(&node, record_size) == VOGRILAS_OK, "is recorded");
+    check(vogrilas_written(&node, said, MOST, &said_size) == VOGRILAS_OK && memmem_text(said, said_size, answer), "it is answered as before");
+    vogrilas_close(&node);
+    check(lent == 0, "memory is given back");
+}
+
 /* A network in this process: a pharmacy, a switch and a payer, each with the bytes of its log. */
 struct one {
     const char *name;
@@ -1042,6 +1109,8 @@ int main(int count, char **words) {
     try_typed();
     lent = 0;
     try_asking();
+    lent = 0;
+    try_carrying();
     lent = 0;
     try_readers();
     try_reading_memory();

@@ -151,6 +151,37 @@ class Trials(unittest.TestCase):
             pharmacy.adjudicate("sw1", asked.data, advice)
         self.assertEqual(caught.exception.name, "NoSuchNode")
 
+    def test_payer_that_asks_about_all(self):
+        asking = SETTINGS.replace(b"[payer.prices]", b'asks = "all"\n[payer.prices]') + b'[answers]\nprofile = "wide"\n'
+        nodes = pharmacy, switch, payer = [self.opened(name, asking) for name in ("ph1", "sw1", "pr1")]
+
+        def ruled(request, advice):
+            asked = switch.take("ph1", pharmacy.submit(request).sent[0].data).sent[0]
+            with self.assertRaises(Refused) as caught:
+                payer.take("sw1", asked.data)
+            self.assertEqual(caught.exception.name, "NotAdvised")
+            self.carry(nodes, "pr1", payer.adjudicate("sw1", asked.data, advice))
+            return pharmacy.answer(pharmacy.count)
+
+        # The first payment has the authorization that an advice has which names none.
+        message = b"\x1cUF1\x1cUH01\x1cFQOPEN UNTIL TEN"
+        paid = (
+            Answer((Ruling("paid", None, 123456, 5000, 150, 500),))
+            .to(REQUEST)
+            .replace(b"\x1e\x1cAM22", message + b"\x1e\x1cAM22")
+        )
+        self.assertEqual(ruled(REQUEST, paid), paid)
+        reversal = bytes(BILLING.reversal())
+        denied = Answer((Ruling("rejected", codes=("86",)),)).to(reversal) + message
+        self.assertEqual(ruled(reversal, denied), denied)
+        self.assertEqual([one.reversed_by for one in payer.payments()], [None])
+        allowed = Answer((Ruling("reversed", None, 123456),)).to(reversal)
+        self.assertEqual(ruled(reversal, allowed.replace(b"\x1cANA", b"\x1cANS")), allowed)
+        self.assertEqual(([one.reversed_by for one in payer.payments()], pharmacy.payments()), ([(1, 3)], []))
+        payer.close()
+        again = self.opened("pr1", asking)
+        self.assertEqual([again.held(1, number) for number in (1, 2, 3)], [paid, denied, allowed])
+
     def test_arguments(self):
         pharmacy, payer = self.opened("ph1"), self.opened("pr1")
         log = self.folder / "ph1.log"

@@ -1,11 +1,11 @@
-"""Wide settings, whose payers may ask and whose routes may be for some providers or lead to no payer, and schedules in which packets are taken
-with an advice and terms change."""
+"""Wide settings, whose payers may ask, whose answers may carry what advices say and whose routes may be for some providers or lead to no payer, and
+schedules in which packets are taken with an advice and terms change."""
 import re
 
 from kinds.limits import said
 from suite.case import Case, Group, rows_apart
-from suite.logs import ADVISED, advised, head_of, read_log, write_log
-from suite.nodes import room
+from suite.logs import ADVISED, advised, envelope, head_of, read_book, read_log, write_log
+from suite.nodes import Served, room
 from suite.printed import octets_of, printed
 from suite.programs import Ran, run
 from suite.rows import read_rows
@@ -15,7 +15,7 @@ PROGRAMS = ("claimswitch", "claimpicture", "claimnode", "claimaudit", "claimdump
 EXPLAINED = {"CLAIMSWITCH_EXPLAIN": "1"}
 SETTINGS = """again = 1
 tries = 1
-[[pharmacy]]
+{answers}[[pharmacy]]
 qualifier = "01"
 provider = "1234567893"
 nodes = [1]
@@ -46,17 +46,20 @@ payer = 1
 
 
 def settings_of(text: str) -> bytes:
-    """The settings with these parts: `asks VALUE`, what payer 1 asks for, and `route KEY = VALUE, ..`, a further route."""
-    asks, routes = "", ""
+    """The settings with these parts: `asks VALUE`, what payer 1 asks for, `answers KEY = VALUE, ..`, the table of answers, `answers = VALUE`, another
+    value in its place, and `route KEY = VALUE, ..`, a further route."""
+    asks, answers, routes = "", "", ""
     for part in text.split("; ") if text else []:
         word, _, rest = part.partition(" ")
         if word == "asks":
             asks = f"asks = {rest}\n"
+        elif word == "answers":
+            answers = f"{part}\n" if rest.startswith("=") else "[answers]\n" + rest.replace(", ", "\n") + "\n"
         elif word == "route":
             routes += "[[route]]\n" + rest.replace(", ", "\n") + "\n"
         else:
             raise ValueError(f"no such part: {part}")
-    return SETTINGS.format(asks=asks, routes=routes).encode("latin-1")
+    return SETTINGS.format(asks=asks, answers=answers, routes=routes).encode("latin-1")
 
 
 def day_of(text: str) -> bytes:
@@ -109,6 +112,26 @@ def tampered(given: bytes, old: bytes, new: bytes) -> str:
         with open(logs.dump.path("pr1.log"), "wb") as file:
             file.write(write_log(log._replace(calls=tuple(calls))))
         return verdict(logs)
+
+
+def held(given: bytes, node: str, number: int) -> str:
+    """The answer to a number of pharmacy 1 that this pharmacy has after a day, or payer 1 where it is asked again: as the log leaves it, behind the log
+    once that is closed, and in the payer's record."""
+    with room() as folder:
+        dump = Dump(folder, given)
+        words = (dump.path("settings.toml"), node, dump.path(f"{node}.log"))
+        rows = [row for row in read_book(dump.read("pr1.book")) if (row.pharmacy, row.number) == (1, number)]
+        told = {f"answer {printed(row.answer)}" for row in rows if node == "pr1"}
+        for _ in range(2):
+            with Served(*words) as it:
+                if node == "ph1":
+                    told.add(it.ask(f"answer {number}").last)
+                else:
+                    again = [it.take("sw1", envelope(False, *row[:3])) for row in rows]
+                    told |= {f"answer {printed(said.sent[0][1][18:])}" for said in again}
+            if run("claimnode", "--turn", *words, given=b"").status:
+                return "its log is not closed"
+        return " and ".join(sorted(it.removeprefix("answer ") for it in told)) or "none"
 
 
 def drawn(given: bytes, text: str) -> str:
@@ -170,6 +193,9 @@ def tell(word: str, argument: bytes) -> str:
     if word == "tampered":
         old, new, rest = text.split(" ", 2)
         return tampered(day_of(rest), octets_of(old), octets_of(new))
+    if word == "held":
+        node, number, rest = text.split(" ", 2)
+        return held(day_of(rest), node, int(number))
     if word == "drawn":
         shown, _, rest = text.partition(" / ")
         return drawn(day_of(rest), shown)

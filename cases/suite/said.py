@@ -31,11 +31,18 @@ def pharmacy_said(document: dict, pharmacy: dict) -> bytes:
     return b"".join([*parts, *map(number, numbers)])
 
 
-def payer_said(payer: dict) -> bytes:
+def zeros_said(payer: dict, is_wide: bool) -> bytes:
+    """What stands before the first serial number of a payer: one zero where it asks about claims, two more where it asks about reversals, four more
+    where answers are wide."""
+    asks = {None: 0, "claims": 1, "all": 1 + 2}[payer.get("asks")]
+    return number(0) * (asks + 4 * is_wide)
+
+
+def payer_said(payer: dict, is_wide: bool) -> bytes:
     numbers = payer.get("serial", 1), payer["cap"], payer["fee"], payer["copay"]
-    asks = number(0) if "asks" in payer else b""
     prices = sorted((product.encode(), price) for product, price in payer.get("prices", {}).items())
-    return asks + b"".join(map(number, numbers)) + listed([text(product) + number(price) for product, price in prices])
+    said = zeros_said(payer, is_wide) + b"".join(map(number, numbers))
+    return said + listed([text(product) + number(price) for product, price in prices])
 
 
 def route_said(route: dict) -> bytes:
@@ -57,11 +64,12 @@ def providers_said(route: dict) -> bytes:
 def said_of(settings: bytes) -> bytes:
     """What settings say."""
     document = tomllib.loads(settings.decode())
+    is_wide = document.get("answers", {}).get("profile") == "wide"
     return b"".join(
         [
             listed([pharmacy_said(document, it) for it in document["pharmacy"]]),
             listed([number(it["cap"]) for it in document["switch"]]),
-            listed([payer_said(it) for it in document["payer"]]),
+            listed([payer_said(it, is_wide) for it in document["payer"]]),
             listed([route_said(it) for it in document["route"]]),
         ]
     )

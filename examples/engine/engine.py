@@ -14,7 +14,7 @@ from vogrilas import Answer, Ruling, decoded
 
 # What payer sheets say of whom they do not know, of a refill too soon, and of an interaction.
 NOT_A_MEMBER, TOO_SOON, INTERACTS = "07", "79", "88"
-COPAY, MOST_FEE, SOON_DAYS, SECONDS = 1000, 150, 23, 2.0
+COPAY, MOST_FEE, SOON_DAYS, SECONDS, HEAD = 1000, 150, 23, 2.0, 31
 POST = "INSERT OR IGNORE INTO ledger VALUES (:row, :transaction, :pharmacy, :number, :ruling, :authorization, :cents, NULL)"
 DATABASE, LOCK = sqlite3.connect(sys.argv[1], check_same_thread=False), threading.Lock()
 DATABASE.executescript(open(f"{sys.path[0]}/tables.sql", encoding="ascii").read())
@@ -35,35 +35,59 @@ def follow() -> None:
         time.sleep(0.5)
 
 
-def ruled(claim: dict[str, Any], day: int, is_overridden: bool) -> tuple[Ruling, int | None]:
-    """What is ruled of a claim, by what its member has had, and how much of one that is paid is the deductible."""
-    had = (claim.get("cardholder"), claim.get("product"))
+def rejected(request: bytes, code: str, message: str = "") -> bytes:
+    """What is told of a transaction that is rejected: a code, and behind it a message (526-FQ)."""
+    more = f"\x1cUF1\x1cUH01\x1cFQ{message}".encode() if message else b""
+    return Answer((Ruling("rejected", codes=(code,)),)).to(request)[HEAD:] + more
+
+
+def approved(request: bytes, claim: dict[str, Any], pharmacy: int, day: int) -> bytes:
+    """What is told of a reversal: that it is approved (`A`), or that one of the same payment was approved before (`S`)."""
+    find = "SELECT authorization FROM paid WHERE (pharmacy, prescription, day) = (?, ?, ?) AND fill = COALESCE(?, fill)"
+    payment = one(find, pharmacy, claim["prescription"], day, claim.get("fill"))
+    is_again = payment and not DATABASE.execute("INSERT OR IGNORE INTO approved VALUES (?)", payment).rowcount
+    told = Answer((Ruling("reversed", None, claim["prescription"]),)).to(request)[HEAD:]
+    return told.replace(b"\x1cANA", b"\x1cANS") if is_again else told
+
+
+def ruled(request: bytes, claim: dict[str, Any], day: int, is_overridden: bool) -> tuple[bytes, int | None]:
+    """What is told of a claim, by what its member has had, and how much of one that is paid is the deductible."""
+    had = (claim["cardholder"], claim["product"])
     left = one("SELECT available FROM deductibles WHERE cardholder = ?", had[0])
-    same = one("SELECT 1 FROM standing WHERE cardholder = ? AND product = ? AND ABS(day - ?) < ?", *had, day, SOON_DAYS)
-    other = not is_overridden and one("SELECT 1 FROM interacting WHERE cardholder = ? AND product = ?", *had)
-    for code in (claim.get("code"), not left and NOT_A_MEMBER, same and TOO_SOON, other and INTERACTS):
-        if code:
-            return Ruling("rejected", codes=(str(code),)), None
+    last, near = one("SELECT MAX(day), MIN(ABS(day - ?)) FROM standing WHERE (cardholder, product) = (?, ?)", day, *had)
+    other = not is_overridden and one("SELECT other FROM interacting WHERE cardholder = ? AND product = ?", *had)
+    if not left:
+        return rejected(request, NOT_A_MEMBER, "NO SUCH MEMBER"), None
+    if last and near < SOON_DAYS:
+        return rejected(request, TOO_SOON, f"NO REFILL BEFORE {datetime.date.fromordinal(last + SOON_DAYS)}"), None
+    if other:
+        return rejected(request, INTERACTS, f"DOES NOT GO WITH {other[0]}"), None
     fee = min(claim["fee"], MOST_FEE)
     deductible = min(left[0], claim["cost"] + fee)
     copay = deductible + min(COPAY, claim["cost"] + fee - deductible)
-    return Ruling("paid", None, claim["prescription"], claim["cost"], fee, copay), deductible
+    paid = Ruling("paid", None, claim["prescription"], claim["cost"], fee, copay)
+    return Answer((paid,)).to(request)[HEAD:], deductible
 
 
 def answer(pharmacy: int, number: int, request: bytes) -> bytes:
     """The answer to a request, the same each time. Another request under its number gets none, by a fault of the table."""
-    key, told, rulings = (pharmacy, number, request), decoded(request), []
+    key, told = (pharmacy, number, request), decoded(request)
     if known := one("SELECT said FROM answers WHERE (pharmacy, number, request) = (?, ?, ?)", *key):
         return bytes(known[0])
+    said = b"D0%b%bA%b" % (request[8:10], request[20:21], request[21:46])
     day = datetime.date.fromisoformat(request[38:46].decode()).toordinal()
     is_overridden = any(part.get("field") == "441-E6" for part in told["parts"])
     for place in range(1, int(request[20:21]) + 1):
-        claim = next(it for it in told["findings"] if it["transaction"] == place)
-        ruling, deductible = ruled(claim, day, is_overridden)
-        given = (*key, place, claim.get("cardholder"), claim.get("product"), day, deductible)
-        one("INSERT INTO answers VALUES (?, ?, ?, ?, ?, ?, ?, ?, NULL)", *given)
-        rulings.append(ruling)
-    said = Answer(tuple(rulings)).to(request)
+        claim, deductible = next(it for it in told["findings"] if it["transaction"] == place), None
+        if "code" in claim:
+            group = rejected(request, claim["code"])
+        elif claim["order"] == "reversal":
+            group = approved(request, claim, pharmacy, day)
+        else:
+            group, deductible = ruled(request, claim, day, is_overridden)
+        kept = (claim.get(it) for it in ("cardholder", "product", "prescription", "fill"))
+        one("INSERT INTO answers VALUES (?, ?, ?, ?, ?, ?, ?, ?, ?, ?, NULL)", *key, place, *kept, day, deductible)
+        said += group
     one("UPDATE answers SET said = ? WHERE (pharmacy, number) = (?, ?)", said, pharmacy, number)
     return said
 

@@ -59,9 +59,10 @@ static bool has_value(const char *at, const char *end, const char *segment, cons
 }
 
 /* An advice as a book's answer, so that the description finds no fault with what is not asked of advices: each transaction has one authorization
-   number (503-F3), of a book, and a fee (507-F7), which is 0 where it has none. */
+   number (503-F3), of a book, and a fee (507-F7), which is 0 where it has none; what was approved before (112-AN `S`) is approved. */
 static struct bytes as_of_a_book(const struct bytes *advice) {
     static const char status[] = "\x1c" "AM21", pricing[] = "\x1c" "AM23", number[] = "\x1c" "F30001000000000001", fee[] = "\x1c" "F70{";
+    static const char again[] = "\x1c" "ANS", once[] = "\x1c" "ANA";
     const char *end = advice->at + advice->size;
     struct bytes text = { NULL, 0, 0 };
     bool is_name = false, is_status = false, lacks_number = false, lacks_fee = false;
@@ -72,7 +73,8 @@ static struct bytes as_of_a_book(const struct bytes *advice) {
         is_name = *at == 0x1e;
         if (*at != 0x1c) is_status = false;
         if (is_status && next - at >= 3 && memcmp(at, number, 3) == 0) continue;
-        add(&text, at, (size_t)(next - at));
+        bool is_again = is_status && next - at == sizeof again - 1 && memcmp(at, again, sizeof again - 1) == 0;
+        add(&text, is_again ? once : at, (size_t)(next - at));
         if (*at == 0x1d) {
             lacks_number = true;
             lacks_fee = !has_value(next, end, pricing, fee);

@@ -2,7 +2,7 @@
 use Rattle.std.proofs.Common.{◌≡◌, ℕ, Bool, true, false, cond, List, [], ◌∷◌, map, length, Option, Some, None, Result, Ok, Err, refl, sym, ap, ◌∙◌, subst}
 use Rattle.std.specs.Prelude.{bytes_eq, ⊤}
 use Rattle.std.specs.List.{AllByRecursion}
-use Rattle.claim_model.specs.Words.{TxnId, RequestHeader, Envelope, EnvelopeFault, Answer, Plan, PlanFault, Ruling}
+use Rattle.claim_model.specs.Words.{Advice, TxnId, RequestHeader, Envelope, EnvelopeFault, Answer, Plan, PlanFault}
 use Rattle.claim_model.specs.Context.{Context}
 use Rattle.claim_model.specs.Laws.{Laws}
 use Rattle.claim_model.specs.Readable.{readable, payer_for, rejection, answer_envelope, is_request}
@@ -250,7 +250,7 @@ repriced_out ctx given n b (Err f) next out e = absurd cc
 repriced_out ctx given n b (Ok plan) next out e =
     subst (AllByRecursion (SentWell ctx given (Payer n))) (done_same (Up (record { payer = b.payer; settings = b.settings; plan = plan; rows = b.rows })) next [] out e).1 tt
 
-adjudicated_out : (ctx : Context) (given : WorldSettings) (w : World) (n : ℕ) (b : Book) (advice : List Ruling) (from : Node) (bytes : List ℕ) (next : Power Book Book) (out : List Sent) → Laws ctx → Carries ctx w bytes
+adjudicated_out : (ctx : Context) (given : WorldSettings) (w : World) (n : ℕ) (b : Book) (advice : Advice) (from : Node) (bytes : List ℕ) (next : Power Book Book) (out : List Sent) → Laws ctx → Carries ctx w bytes
     → IsForAll ctx given from (Payer n) bytes → payer_takes ctx b advice from (ctx.read_envelope bytes) ≡ Done next out → AllByRecursion (SentWell ctx given (Payer n)) out
 adjudicated_out ctx given w n b advice from bytes next out laws c for_it e =
     let r = carries_reads ctx w bytes laws c in

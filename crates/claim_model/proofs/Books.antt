@@ -1,6 +1,6 @@
 -- The books of every world that events lead to keep their ledgers.
 use Rattle.std.proofs.Common.{◌≡◌, ℕ, zero, suc, ◌+◌, List, [], ◌∷◌, Some, Result, Ok, Err, refl, sym, ap, subst}
-use Rattle.claim_model.specs.Words.{TxnId, Envelope, EnvelopeFault, Plan, PlanFault, Ruling}
+use Rattle.claim_model.specs.Words.{Advice, TxnId, Envelope, EnvelopeFault, Plan, PlanFault}
 use Rattle.claim_model.specs.Context.{Context}
 use Rattle.claim_model.specs.Readable.{is_request}
 use Rattle.claim_model.specs.Numbered.{numbered}
@@ -20,16 +20,16 @@ use Rattle.claim_model.proofs.Ledger.{Ledger, empty_ledger, ledger_row}
 -- what a call makes of a book: its rows stay, or a new request is entered
 pub data BookMoves (ctx : Context) (b after : Book) : Type 0 where
   Same : after.rows ≡ b.rows → after.payer ≡ b.payer → after.settings ≡ b.settings → BookMoves ctx b after
-  Adds : (advice : List Ruling) → (id : TxnId) → (request : List ℕ) → after ≡ with_row b (new_row ctx b advice id request) → BookMoves ctx b after
+  Adds : (advice : Advice) → (id : TxnId) → (request : List ℕ) → after ≡ with_row b (new_row ctx b advice id request) → BookMoves ctx b after
 
 same_book : (ctx : Context) (b after : Book) → after ≡ b → BookMoves ctx b after
 same_book ctx b after e = Same (ap (λ (q : Book). q.rows) e) (ap (λ (q : Book). q.payer) e) (ap (λ (q : Book). q.settings) e)
 
-rows_move : (ctx : Context) (b : Book) (advice : List Ruling) (a : Answered) (e : Envelope) (r : Ruled_on ctx b advice e.id e.payload a) → Rows ctx b advice e.id e.payload r.header a → BookMoves ctx b a.book
+rows_move : (ctx : Context) (b : Book) (advice : Advice) (a : Answered) (e : Envelope) (r : Ruled_on ctx b advice e.id e.payload a) → Rows ctx b advice e.id e.payload r.header a → BookMoves ctx b a.book
 rows_move ctx b advice a e r (Known row found same book text) = same_book ctx b a.book book
 rows_move ctx b advice a e r (New fresh fits advised book text) = Adds advice e.id e.payload book
 
-takes_move : (ctx : Context) (b : Book) (advice : List Ruling) (from : Node) (r : Result Envelope EnvelopeFault) (next : Power Book Book) (sent : List Sent) → payer_takes ctx b advice from r ≡ Done next sent → BookMoves ctx b (book_in next)
+takes_move : (ctx : Context) (b : Book) (advice : Advice) (from : Node) (r : Result Envelope EnvelopeFault) (next : Power Book Book) (sent : List Sent) → payer_takes ctx b advice from r ≡ Done next sent → BookMoves ctx b (book_in next)
 takes_move ctx b advice from (Err f) next sent e = absurd cc
 takes_move ctx b advice from (Ok env) next sent e =
     let t = takes_parts (is_request env) (after_answer ctx from env.id (answered ctx b advice env.id env.payload)) next sent e in

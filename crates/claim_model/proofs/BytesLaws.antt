@@ -30,7 +30,7 @@ use Rattle.plan_rules.specs.Prices.{price_of}
 use Rattle.plan_rules.specs.Pricing.{amounts_at, paid, worth}
 use Rattle.claim_model.specs.Words.{Amounts, Claim, Reversal, Bills, Reverses, Code, RequestHeader, Kind, Envelope, Plan, Answer, RouteKey}
 use Rattle.claim_model.specs.Readable.{readable, billing_code, reversal_code}
-use Rattle.claim_model.specs.Laws.{IsEnvelope, IsPrescription, IsClaimOf, IsReversalOf, IsRejects, IsOrderOf, IsAmounts, AdvisesWell, SaysSame, AnswersReadBack, Laws}
+use Rattle.claim_model.specs.Laws.{IsEnvelope, IsPrescription, IsClaimOf, IsReversalOf, IsRejects, IsOrderOf, IsAmounts, AdvisesWell, SaysSame, AnswersReadBack, CarriedBack, Laws}
 use Rattle.claim_model.specs.Bytes.{order_in, orders_in, envelope_in, bytes_with}
 use Rattle.claim_model.proofs.Options.{map_some, then_some, same_some}
 use Rattle.claim_model.proofs.Tests.{readable_parts}
@@ -274,18 +274,19 @@ prices_fit plan h c amounts of_it e =
 abbrev pub NumbersAreLed : Type 0
 NumbersAreLed = (routes : RouteMaps) (number : ℕ) (key : RouteKey) (payer : ℕ) → payer_under routes number key ≡ Some payer → payer_of routes key ≡ Some payer
 
-pub bytes_laws : EnvelopesReadBack → NumbersInRange → AmountsInRange → (routes : RouteMaps) → AnswersReadBack (bytes_with routes)
+pub bytes_laws : EnvelopesReadBack → NumbersInRange → AmountsInRange → (routes : RouteMaps) → AnswersReadBack (bytes_with routes) → CarriedBack (bytes_with routes)
     → ((bytes : List ℕ) (a : Answer) → (bytes_with routes).read_answer bytes ≡ Some a → AdvisesWell a.rulings)
     → ((bytes : List ℕ) (a : Answer) → (bytes_with routes).read_advice bytes ≡ Some a → AdvisesWell a.rulings)
     → ((bytes : List ℕ) (a : Answer) → (bytes_with routes).read_answer bytes ≡ Some a → (advice : Answer) × ((bytes_with routes).read_advice bytes ≡ Some advice) × SaysSame advice.rulings a.rulings)
     → NumbersAreLed → Laws (bytes_with routes)
-bytes_laws envelopes numbers amounts routes answers sayings advices advised led =
+bytes_laws envelopes numbers amounts routes answers carried sayings advices advised led =
     record {
       envelopes = envelopes_read envelopes routes;
       groups = groups_counted routes;
       orders = orders_are numbers amounts routes;
       prices = prices_fit;
       answers = answers;
+      carried_back = carried;
       sayings = sayings;
       advices = advices;
       advised = advised;

@@ -290,9 +290,9 @@ reverses_ruling auth (Rejected codes) e = absurd (Rattle.std.proofs.lemmas.Bool.
 told_row : (ctx : Context) (w : World) (n : ℕ) (rows : List Row) (row : Row) (id : TxnId) (request a : List ℕ) → Laws ctx → SoundRow ctx w n rows row → row_at w n row.id ≡ Some row → row.id ≡ id → request ≡ row.request → decided ctx w id ≡ Some a
     → ruled_groups ctx id request (rulings_in (ctx.read_answer a)) ≡ ruled_row ctx row
 told_row ctx w n rows row id request a laws s there same_id same_request d =
-    let text : Rattle.claim_model.specs.Readable.answer_text ctx s.header row.rulings ≡ a =
+    let text : Rattle.claim_model.specs.Readable.answer_text ctx s.header row ≡ a =
     same_some _ a (sym (Rattle.claim_model.proofs.Decided.decided_routed ctx w row.id row.request s.header n row s.asks s.reads s.routed there refl) ∙ (ap (decided ctx w) same_id ∙ d)) in
-    let spells : Spells ctx s.header row.rulings a = subst (Spells ctx s.header row.rulings) text (Rattle.claim_model.proofs.Decided.row_spells ctx row.request s.header row.rulings laws s.reads s.count s.written) in
+    let spells : Spells ctx s.header row.rulings a = subst (Spells ctx s.header row.rulings) text (Rattle.claim_model.proofs.Decided.row_spells ctx row.request s.header row laws s.reads s.count s.written) in
     ap₂ (λ (i : TxnId) (q : List ℕ). ruled_groups ctx i q (rulings_in (ctx.read_answer a))) (sym same_id) same_request ∙ ap (ruled_groups ctx row.id row.request) (spelled ctx s.header row.rulings a spells)
 
 -- an entry whose answer reverses a payment that is counted has no answer

@@ -57,13 +57,13 @@ length_replicate (ℕ.suc n) a = ap ℕ.suc (length_replicate n a)
 -- the fixed rejection is short and reads back
 pub rejection_spells : (ctx : Context) (text : List ℕ) (h : RequestHeader) → Laws ctx → readable ctx text ≡ Some h → Spells ctx h (replicate h.count (Rejected (BadBin ∷ []))) (rejection ctx h)
 rejection_spells ctx text h laws r =
-    laws.answers text h RejectedStatus (replicate h.count (Rejected (BadBin ∷ []))) r (length_replicate h.count _)
+    laws.answers text h RejectedStatus (replicate h.count (Rejected (BadBin ∷ []))) [] r (length_replicate h.count _)
     (all_replicate IsRuling h.count (Rejected (BadBin ∷ [])) (record { some = omega arith; few = omega arith; each = (refl, tt) }))
     (all_replicate IsRejected h.count (Rejected (BadBin ∷ [])) tt)
 
-pub row_spells : (ctx : Context) (text : List ℕ) (h : RequestHeader) (rulings : List Ruling) → Laws ctx → readable ctx text ≡ Some h → length rulings ≡ h.count → AllByRecursion IsRuling rulings
-    → Spells ctx h rulings (answer_text ctx h rulings)
-row_spells ctx text h rulings laws r count written = laws.answers text h AcceptedStatus rulings r count written tt
+pub row_spells : (ctx : Context) (text : List ℕ) (h : RequestHeader) (row : Row) → Laws ctx → readable ctx text ≡ Some h → length row.rulings ≡ h.count → AllByRecursion IsRuling row.rulings
+    → Spells ctx h row.rulings (answer_text ctx h row)
+row_spells ctx text h row laws r count written = laws.answers text h AcceptedStatus row.rulings row.carried r count written tt
 
 origin_by : (ctx : Context) (given : WorldSettings) (w : World) (id : TxnId) (a : List ℕ) (request : List ℕ) (h : RequestHeader) (o : Option ℕ)
     → Laws ctx → Sound ctx given w → asked w id ≡ Some request → readable ctx request ≡ Some h → payer_for ctx id h ≡ o → decided_by ctx w id h o ≡ Some a
@@ -76,12 +76,12 @@ origin_by ctx given w id a request h None laws x asks reads route e =
 origin_by ctx given w id a request h (Some n) laws x asks reads route e =
     let r = then_some (row_answer ctx) (row_at w n id) a e in
     let t = row_there ctx given w n id r.0 x r.1 in
-    let f = map_some (λ (g : RequestHeader). answer_text ctx g r.0.rulings) (readable ctx r.0.request) a r.2 in
+    let f = map_some (λ (g : RequestHeader). answer_text ctx g r.0) (readable ctx r.0.request) a r.2 in
     let same_request : r.0.request ≡ request = same_some _ _ (sym t.sound.asks ∙ (ap (asked w) t.same ∙ asks)) in
     let same_header : f.0 ≡ h = same_some _ _ (sym f.1 ∙ (ap (readable ctx) same_request ∙ reads)) in
     let row_header : t.sound.header ≡ h = same_some _ _ (sym t.sound.reads ∙ (ap (readable ctx) same_request ∙ reads)) in
     let count : length r.0.rulings ≡ h.count = t.sound.count ∙ ap (λ (g : RequestHeader). g.count) row_header in
-    let text : answer_text ctx h r.0.rulings ≡ a = ap (λ (g : RequestHeader). answer_text ctx g r.0.rulings) (sym same_header) ∙ f.2 in (
+    let text : answer_text ctx h r.0 ≡ a = ap (λ (g : RequestHeader). answer_text ctx g r.0) (sym same_header) ∙ f.2 in (
       record {
         request = request;
         header = h;
@@ -89,7 +89,7 @@ origin_by ctx given w id a request h (Some n) laws x asks reads route e =
         reads = reads;
         rulings = r.0.rulings;
         count = count;
-        spells = subst (Spells ctx h r.0.rulings) text (row_spells ctx request h r.0.rulings laws reads count t.sound.written);
+        spells = subst (Spells ctx h r.0.rulings) text (row_spells ctx request h r.0 laws reads count t.sound.written);
       },
       Row_of n r.0 route r.1 refl,
     )
@@ -122,11 +122,11 @@ decided_unrouted ctx w id request h asks reads route =
 
 -- a row's answer is decided for a request that is routed to its book
 pub decided_routed : (ctx : Context) (w : World) (id : TxnId) (request : List ℕ) (h : RequestHeader) (n : ℕ) (row : Row) → asked w id ≡ Some request → readable ctx request ≡ Some h → payer_for ctx id h ≡ Some n
-    → row_at w n id ≡ Some row → row.request ≡ request → decided ctx w id ≡ Some (answer_text ctx h row.rulings)
+    → row_at w n id ≡ Some row → row.request ≡ request → decided ctx w id ≡ Some (answer_text ctx h row)
 unfolding decided
 decided_routed ctx w id request h n row asks reads route there same =
     ap (λ (o : Option (List ℕ)). decided_for ctx w id (option_and_then (readable ctx) o)) asks
     ∙ (ap (decided_for ctx w id) reads
     ∙ (ap (decided_by ctx w id h) route
     ∙ (ap (option_and_then (row_answer ctx)) there
-    ∙ ap (λ (o : Option RequestHeader). option_map (λ (g : RequestHeader). answer_text ctx g row.rulings) o) (ap (readable ctx) same ∙ reads))))
+    ∙ ap (λ (o : Option RequestHeader). option_map (λ (g : RequestHeader). answer_text ctx g row) o) (ap (readable ctx) same ∙ reads))))

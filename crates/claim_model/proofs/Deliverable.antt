@@ -3,14 +3,14 @@ use Rattle.std.proofs.Common.{◌≡◌, ℕ, Bool, true, false, not, ◌&&◌, 
 use Rattle.std.specs.Prelude.{bytes_eq, nat_lt, option_map, is_some}
 use Rattle.std.specs.List.{AllByRecursion, list_all}
 use Rattle.std.proofs.lemmas.Bool.{and_from, not_from_false, both_ways}
-use Rattle.claim_model.specs.Words.{TxnId, RequestHeader, Envelope, Answer, Order, Code, Ruling}
+use Rattle.claim_model.specs.Words.{Advice, TxnId, RequestHeader, Envelope, Answer, Order, Code}
 use Rattle.claim_model.specs.Context.{Context}
 use Rattle.claim_model.specs.Laws.{Laws}
 use Rattle.claim_model.specs.Readable.{readable, payer_for, is_payer, fits, settles, is_request, route_key}
 use Rattle.claim_model.specs.Refusal.{Refusal, NoSuchPacket, Down, Unreadable, AlreadySettled, Differs, NumberReused, NotWaiting, NotOurs, BookFull, SerialsUsedUp, NotAdvised, NotAsked}
 use Rattle.claim_model.specs.Numbered.{numbered}
 use Rattle.claim_model.specs.Ruled.{Ruled, ruled}
-use Rattle.claim_model.specs.Judgement.{Judged, Unpriced, ToPrice, judged, planned, verdict_in, ruling, is_advised, all_advised}
+use Rattle.claim_model.specs.Judgement.{Judged, Unpriced, ToPrice, ToReverse, judged, planned, verdict_in, Allows, consent_in, ruling, is_advised, all_advised}
 use Rattle.claim_model.specs.Rows.{Row, Book, ruled_rows}
 use Rattle.claim_model.specs.Book.{serial_fits, row_of, new_row, has_verdicts, unadvised, Answered, entered_row, answered_by, answered_readable, answered}
 use Rattle.claim_model.specs.Journal.{State, Waits, Has, Entry, Journal, JournalAtRest, Kept, settle_by, settle_with, heard_at, heard, answer_in, kept_entry, stopped}
@@ -218,22 +218,27 @@ switch_refusal ctx given w (AtRest cap) from bytes c why laws x all e = subst Ma
 
 -- a payer that does not ask has a verdict on everything
 
-judged_unasked : (ctx : Context) (b : Book) (advice : List Ruling) (place : ℕ) (j : Judged) → b.settings.asks ≡ false → is_advised ctx b advice place j ≡ true
+judged_unasked : (ctx : Context) (b : Book) (advice : Advice) (place : ℕ) (j : Judged) → b.settings.asks ≡ false → is_advised ctx b advice place j ≡ true
 judged_unasked ctx b advice place (Unpriced ruling) e = refl
 judged_unasked ctx b advice place (ToPrice c) e = by_asks b.settings.asks e
   where
-    by_asks : (t : Bool) → t ≡ false → is_some (cond t (verdict_in c.fill.prescription (numbered advice place)) (Some (planned (ctx.price b.plan c)))) ≡ true
+    by_asks : (t : Bool) → t ≡ false → is_some (cond t (verdict_in c.fill.prescription (numbered advice.rulings place)) (Some (planned (ctx.price b.plan c)))) ≡ true
+    by_asks true h = absurd (Rattle.std.proofs.lemmas.Bool.true≢false h)
+    by_asks false h = refl
+judged_unasked ctx b advice place (ToReverse auth v) e = by_asks b.settings.asks e
+  where
+    by_asks : (t : Bool) → t ≡ false → is_some (cond (t && b.settings.reversals) (consent_in v.prescription (numbered advice.rulings place)) (Some Allows)) ≡ true
     by_asks true h = absurd (Rattle.std.proofs.lemmas.Bool.true≢false h)
     by_asks false h = refl
 
-pub unasked_advised : (ctx : Context) (b : Book) (advice : List Ruling) (before : List Ruled) (id : TxnId) (place : ℕ) (orders : List (Result Order (List Code))) → b.settings.asks ≡ false → all_advised ctx b advice before id place orders ≡ true
+pub unasked_advised : (ctx : Context) (b : Book) (advice : Advice) (before : List Ruled) (id : TxnId) (place : ℕ) (orders : List (Result Order (List Code))) → b.settings.asks ≡ false → all_advised ctx b advice before id place orders ≡ true
 unasked_advised ctx b advice before id place [] e = refl
 unasked_advised ctx b advice before id place (order ∷ orders) e =
     and_from (is_advised ctx b advice place (judged before order)) (all_advised ctx b advice (before ++ ruled id place order (ruling ctx b advice before place order) ∷ []) id (place + 1) orders)
     (judged_unasked ctx b advice place (judged before order) e) (unasked_advised ctx b advice (before ++ ruled id place order (ruling ctx b advice before place order) ∷ []) id (place + 1) orders e)
 
 -- so what lacks a verdict is at a payer that asks
-asks_where_not : (ctx : Context) (b : Book) (advice : List Ruling) (id : TxnId) (request : List ℕ) → has_verdicts ctx b advice id request ≡ false → b.settings.asks ≡ true
+asks_where_not : (ctx : Context) (b : Book) (advice : Advice) (id : TxnId) (request : List ℕ) → has_verdicts ctx b advice id request ≡ false → b.settings.asks ≡ true
 asks_where_not ctx b advice id request e = by_asks b.settings.asks refl
   where
     by_asks : (t : Bool) → b.settings.asks ≡ t → t ≡ true
@@ -252,7 +257,7 @@ room_refusal : (asks : Bool) (r : Result Answered Refusal) (t : Bool) (why : Ref
 room_refusal asks r true why f e = f e
 room_refusal asks r false why f e = inl (subst MayMeet (err_same BookFull why e) tt)
 
-by_row_refusal : (ctx : Context) (w : World) (n : ℕ) (b : Book) (advice : List Ruling) (bytes : List ℕ) (c : Carries ctx w bytes) (h : RequestHeader) (o : Option Row) (why : Refusal) → asked w c.envelope.id ≡ Some c.envelope.payload
+by_row_refusal : (ctx : Context) (w : World) (n : ℕ) (b : Book) (advice : Advice) (bytes : List ℕ) (c : Carries ctx w bytes) (h : RequestHeader) (o : Option Row) (why : Refusal) → asked w c.envelope.id ≡ Some c.envelope.payload
     → AllByRecursion (SoundRow ctx w n b.rows) b.rows → row_of c.envelope.id b.rows ≡ o → answered_by ctx b advice c.envelope.id c.envelope.payload h o ≡ Err why → MayMeetAt b.settings.asks why
 by_row_refusal ctx w n b advice bytes c h (Some row) why asks rows is e =
     let s : SoundRow ctx w n b.rows row = find_all (SoundRow ctx w n b.rows) _ b.rows row rows is in
@@ -268,7 +273,7 @@ by_row_refusal ctx w n b advice bytes c h None why asks rows is e =
     (λ k. row_refusal b.settings.asks _ (list_all serial_fits (new_row ctx b advice c.envelope.id c.envelope.payload).rulings) (has_verdicts ctx b advice c.envelope.id c.envelope.payload) why
     (asks_where_not ctx b advice c.envelope.id c.envelope.payload) k) e
 
-answered_refusal : (ctx : Context) (given : WorldSettings) (w : World) (n : ℕ) (b : Book) (advice : List Ruling) (bytes : List ℕ) (c : Carries ctx w bytes) (o : Option RequestHeader) (why : Refusal) → SoundBook ctx given w n b → asked w c.envelope.id ≡ Some c.envelope.payload
+answered_refusal : (ctx : Context) (given : WorldSettings) (w : World) (n : ℕ) (b : Book) (advice : Advice) (bytes : List ℕ) (c : Carries ctx w bytes) (o : Option RequestHeader) (why : Refusal) → SoundBook ctx given w n b → asked w c.envelope.id ≡ Some c.envelope.payload
     → (r : RoutedTo ctx n c.envelope) → o ≡ Some r.header → answered_readable ctx b advice c.envelope.id c.envelope.payload o ≡ Err why → MayMeetAt b.settings.asks why
 answered_refusal ctx given w n b advice bytes c None why sb asks r is e = absurd cc
 answered_refusal ctx given w n b advice bytes c (Some h) why sb asks r is e =
@@ -286,7 +291,7 @@ cond_refused : {A : Type 0} (b : Bool) (o : Outcome A) (f why : Refusal) → b �
 cond_refused true o f why is e = e
 cond_refused false o f why is e = absurd (Rattle.std.proofs.lemmas.Bool.false≢true is)
 
-takes_refusal : (ctx : Context) (given : WorldSettings) (w : World) (n : ℕ) (b : Book) (advice : List Ruling) (from : Node) (bytes : List ℕ) (c : Carries ctx w bytes) (why : Refusal) → Laws ctx → Sound ctx given w → numbered w.payers n ≡ Some (Up b)
+takes_refusal : (ctx : Context) (given : WorldSettings) (w : World) (n : ℕ) (b : Book) (advice : Advice) (from : Node) (bytes : List ℕ) (c : Carries ctx w bytes) (why : Refusal) → Laws ctx → Sound ctx given w → numbered w.payers n ≡ Some (Up b)
     → RoutedTo ctx n c.envelope → payer_takes ctx b advice from (ctx.read_envelope bytes) ≡ Refused why → MayMeetAt b.settings.asks why
 unfolding answered
 takes_refusal ctx given w n b advice from bytes c why laws x is r e =

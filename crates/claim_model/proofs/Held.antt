@@ -48,10 +48,10 @@ requests_submitted ctx given w laws x =
 
 row_decided : (ctx : Context) (w : World) (n : ℕ) (rows : List Row) (row : Row) (a : List ℕ) → SoundRow ctx w n rows row → row_at w n row.id ≡ Some row → row_answer ctx row ≡ Some a → decided ctx w row.id ≡ Some a
 row_decided ctx w n rows row a s there e =
-    let f = map_some (λ (h : RequestHeader). answer_text ctx h row.rulings) (readable ctx row.request) a e in
+    let f = map_some (λ (h : RequestHeader). answer_text ctx h row) (readable ctx row.request) a e in
     let same : f.0 ≡ s.header = same_some _ _ (sym f.1 ∙ s.reads) in
     decided_routed ctx w row.id row.request s.header n row s.asks s.reads s.routed there refl
-    ∙ ap (λ (x : List ℕ). Some x) (ap (λ (h : RequestHeader). answer_text ctx h row.rulings) (sym same) ∙ f.2)
+    ∙ ap (λ (x : List ℕ). Some x) (ap (λ (h : RequestHeader). answer_text ctx h row) (sym same) ∙ f.2)
 
 book_decided : (ctx : Context) (given : WorldSettings) (w : World) (n : ℕ) (b : Book) (k : ℕ) (row : Row) (a : List ℕ) → Sound ctx given w → book_at w n ≡ Some b → numbered b.rows k ≡ Some row → row_answer ctx row ≡ Some a
     → decided ctx w row.id ≡ Some a

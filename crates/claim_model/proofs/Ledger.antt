@@ -6,12 +6,12 @@ use Rattle.std.proofs.lemmas.List.{append-nil}
 use Rattle.std.proofs.lemmas.List.Sums.{sum_by-append}
 use Rattle.std.proofs.lemmas.List.Elements.{filter-append}
 use Rattle.std.proofs.lemmas.Bool.{cond-true, false_from_ne_true, both_ways}
-use Rattle.claim_model.specs.Words.{TxnId, Auth, Amounts, Fill, Claim, Reversal, Order, Bills, Reverses, Code, Ruling, Paid, Duplicate, Reversed, Rejected}
+use Rattle.claim_model.specs.Words.{Advice, TxnId, Auth, Amounts, Fill, Claim, Reversal, Order, Bills, Reverses, Code, Ruling, Paid, Duplicate, Reversed, Rejected}
 use Rattle.claim_model.specs.Context.{Context}
 use Rattle.claim_model.specs.Ruled.{Ruled, ruled, ruled_from}
 use Rattle.claim_model.specs.Payments.{Payment, same_auth, payments, is_standing, standing, payment_of}
 use Rattle.claim_model.specs.Rows.{Row, Book, ruled_row, ruled_rows}
-use Rattle.claim_model.specs.Judgement.{same_fill, same_claim, is_for, standing_for, payment_to_reverse, Unpriced, judged_claim, judged_reversal, judged, is_paid, next_serial, next_auth, Verdict, Pays, Rejects, verdict_of, priced, ruling_of, ruling, rulings_from}
+use Rattle.claim_model.specs.Judgement.{same_fill, same_claim, is_for, standing_for, payment_to_reverse, Unpriced, judged_claim, judged_reversal, judged, is_paid, next_serial, next_auth, Verdict, Pays, Rejects, verdict_of, priced, Consent, Allows, Denies, consent_of, taken_back, ruling_of, ruling, rulings_from}
 use Rattle.claim_model.proofs.Lists.{all_append, all_weaker, all_map, all_filter, find_all, find_passes}
 use Rattle.claim_model.proofs.Tests.{auth_same, auth_self, fill_same, fill_self}
 use Rattle.claim_model.proofs.Written.{only_all}
@@ -176,7 +176,7 @@ ledger_priced b rs id place c (Some (Pays m)) l none = ledger_paid b rs id place
 found_standing : (rs : List Ruled) (p : Payment) (fill : Fill) → AllByRecursion (Found rs) (payments rs) → standing_for fill rs ≡ Some p → Found rs p
 found_standing rs p fill all e = find_all (Found rs) (λ (q : Payment). same_fill fill q.claim.fill) (standing rs) p (all_filter (Found rs) is_standing (payments rs) all) e
 
-ledger_claim : (ctx : Context) (b : Book) (advice : List Ruling) (rs : List Ruled) (id : TxnId) (place : ℕ) (c : Claim) (o : Option Payment) → Ledger b.payer b.settings.serial rs → standing_for c.fill rs ≡ o
+ledger_claim : (ctx : Context) (b : Book) (advice : Advice) (rs : List Ruled) (id : TxnId) (place : ℕ) (c : Claim) (o : Option Payment) → Ledger b.payer b.settings.serial rs → standing_for c.fill rs ≡ o
     → Ledger b.payer b.settings.serial (rs ++ ruled id place (Ok (Bills c)) (ruling_of ctx b advice rs place (judged_claim c o)) ∷ [])
 ledger_claim ctx b advice rs id place c None l is = ledger_priced b rs id place c (verdict_of ctx b advice place c) l is
 ledger_claim ctx b advice rs id place c (Some p) l is = by_test (same_claim p.claim c)
@@ -197,25 +197,32 @@ filter_passes test (x ∷ xs) = by_test (test x) refl (filter_passes test xs)
     by_test true is h = (is, h)
     by_test false is h = h
 
-ledger_reversal : (ctx : Context) (b : Book) (advice : List Ruling) (rs : List Ruled) (id : TxnId) (place : ℕ) (v : Reversal) (o : Option Payment) → Ledger b.payer b.settings.serial rs → payment_to_reverse v rs ≡ o
-    → Ledger b.payer b.settings.serial (rs ++ ruled id place (Ok (Reverses v)) (ruling_of ctx b advice rs place (judged_reversal v o)) ∷ [])
-ledger_reversal ctx b advice rs id place v None l is = ledger_unpaid b.payer b.settings.serial rs (ruled id place (Ok (Reverses v)) (Rejected (Code.ReversalNotProcessed ∷ []))) l tt refl
-ledger_reversal ctx b advice rs id place v (Some p) l is =
+-- a payment is taken back, or stays as it is
+ledger_taken : (b : Book) (rs : List Ruled) (id : TxnId) (place : ℕ) (v : Reversal) (p : Payment) (o : Option Consent) → Ledger b.payer b.settings.serial rs → payment_to_reverse v rs ≡ Some p
+    → Ledger b.payer b.settings.serial (rs ++ ruled id place (Ok (Reverses v)) (taken_back p.auth v o) ∷ [])
+ledger_taken b rs id place v p None l is = ledger_unpaid b.payer b.settings.serial rs (ruled id place (Ok (Reverses v)) (Rejected (Code.ReversalNotProcessed ∷ []))) l tt refl
+ledger_taken b rs id place v p (Some Allows) l is =
     let x : Ruled = ruled id place (Ok (Reverses v)) (Reversed p.auth v.prescription) in
     let test : Payment → Bool = λ (q : Payment). is_for v q.claim in
     let found : Found rs p = only_all (Found rs) (filter test (standing rs)) p (all_filter (Found rs) test (standing rs) (all_filter (Found rs) is_standing (payments rs) l.found)) is in
     let passes : is_for v p.claim ≡ true = only_all (λ (q : Payment). test q ≡ true) (filter test (standing rs)) p (filter_passes test (standing rs)) is in
     ledger_unpaid b.payer b.settings.serial rs x l (record { payment = mark x p; found = payment_of_more rs x p.auth p found; for_it = passes; reversed = reversed_by_mark x p.auth p.reversed_by (auth_self p.auth) }) refl
+ledger_taken b rs id place v p (Some (Denies codes)) l is = ledger_unpaid b.payer b.settings.serial rs (ruled id place (Ok (Reverses v)) (Rejected codes)) l tt refl
+
+ledger_reversal : (ctx : Context) (b : Book) (advice : Advice) (rs : List Ruled) (id : TxnId) (place : ℕ) (v : Reversal) (o : Option Payment) → Ledger b.payer b.settings.serial rs → payment_to_reverse v rs ≡ o
+    → Ledger b.payer b.settings.serial (rs ++ ruled id place (Ok (Reverses v)) (ruling_of ctx b advice rs place (judged_reversal v o)) ∷ [])
+ledger_reversal ctx b advice rs id place v None l is = ledger_unpaid b.payer b.settings.serial rs (ruled id place (Ok (Reverses v)) (Rejected (Code.ReversalNotProcessed ∷ []))) l tt refl
+ledger_reversal ctx b advice rs id place v (Some p) l is = ledger_taken b rs id place v p (consent_of b advice place v) l is
 
 -- whatever is asked, a ledger goes on
-pub ledger_more : (ctx : Context) (b : Book) (advice : List Ruling) (rs : List Ruled) (id : TxnId) (place : ℕ) (order : Result Order (List Code)) → Ledger b.payer b.settings.serial rs
+pub ledger_more : (ctx : Context) (b : Book) (advice : Advice) (rs : List Ruled) (id : TxnId) (place : ℕ) (order : Result Order (List Code)) → Ledger b.payer b.settings.serial rs
     → Ledger b.payer b.settings.serial (rs ++ ruled id place order (ruling ctx b advice rs place order) ∷ [])
 unfolding ruling judged
 ledger_more ctx b advice rs id place (Err codes) l = ledger_unpaid b.payer b.settings.serial rs (ruled id place (Err codes) (Rejected codes)) l tt refl
 ledger_more ctx b advice rs id place (Ok (Bills c)) l = ledger_claim ctx b advice rs id place c (standing_for c.fill rs) l refl
 ledger_more ctx b advice rs id place (Ok (Reverses v)) l = ledger_reversal ctx b advice rs id place v (payment_to_reverse v rs) l refl
 
-ledger_groups : (ctx : Context) (b : Book) (advice : List Ruling) (rs : List Ruled) (id : TxnId) (place : ℕ) (orders : List (Result Order (List Code))) → Ledger b.payer b.settings.serial rs
+ledger_groups : (ctx : Context) (b : Book) (advice : Advice) (rs : List Ruled) (id : TxnId) (place : ℕ) (orders : List (Result Order (List Code))) → Ledger b.payer b.settings.serial rs
     → Ledger b.payer b.settings.serial (rs ++ ruled_from id place orders (rulings_from ctx b advice rs id place orders))
 ledger_groups ctx b advice rs id place [] l = subst (Ledger b.payer b.settings.serial) (sym (append-nil rs)) l
 ledger_groups ctx b advice rs id place (order ∷ orders) l =
@@ -229,7 +236,7 @@ ruled_rows_more ctx (r ∷ rows) row =
     ap (λ (xs : List Ruled). ruled_row ctx r ++ xs) (ruled_rows_more ctx rows row) ∙ sym (append_assoc (ruled_row ctx r) (ruled_rows ctx rows) (ruled_row ctx row))
 
 -- a new row keeps the ledger
-pub ledger_row : (ctx : Context) (b : Book) (advice : List Ruling) (id : TxnId) (request : List ℕ) → Ledger b.payer b.settings.serial (ruled_rows ctx b.rows)
+pub ledger_row : (ctx : Context) (b : Book) (advice : Advice) (id : TxnId) (request : List ℕ) → Ledger b.payer b.settings.serial (ruled_rows ctx b.rows)
     → Ledger b.payer b.settings.serial (ruled_rows ctx (b.rows ++ Rattle.claim_model.specs.Book.new_row ctx b advice id request ∷ []))
 ledger_row ctx b advice id request l =
     subst (Ledger b.payer b.settings.serial) (sym (ruled_rows_more ctx b.rows (Rattle.claim_model.specs.Book.new_row ctx b advice id request)))

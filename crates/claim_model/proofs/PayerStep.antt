@@ -3,7 +3,7 @@ use Rattle.std.proofs.Common.{◌≡◌, ℕ, zero, suc, ◌<◌, ◌≤◌, Boo
 use Rattle.std.specs.Prelude.{bytes_eq, nat_lt, option_map, option_and_then}
 use Rattle.std.specs.List.{AllByRecursion, list_all}
 use Rattle.std.proofs.lemmas.Bool.{cond-true}
-use Rattle.claim_model.specs.Words.{TxnId, RequestHeader, Envelope, Plan, PlanFault, Ruling, Answer}
+use Rattle.claim_model.specs.Words.{Advice, TxnId, RequestHeader, Envelope, Plan, PlanFault, Answer}
 use Rattle.claim_model.specs.Context.{Context}
 use Rattle.claim_model.specs.Laws.{Laws, IsEnvelope, AdvisesWell, IsRuling}
 use Rattle.claim_model.specs.Readable.{readable, payer_for, is_payer, answer_text, rulings_in, same_id, answer_envelope, is_request}
@@ -31,19 +31,19 @@ abbrev pub with_row : Book → Row → Book
 with_row b row = record { payer = b.payer; settings = b.settings; plan = b.plan; rows = b.rows ++ row ∷ [] }
 
 -- what a request makes of a book: its row was there, or it is entered as a new one
-pub data Rows (ctx : Context) (b : Book) (advice : List Ruling) (id : TxnId) (request : List ℕ) (h : RequestHeader) (a : Answered) : Type 0 where
-  Known : (row : Row) → row_of id b.rows ≡ Some row → row.request ≡ request → a.book ≡ b → a.bytes ≡ answer_text ctx h row.rulings → Rows ctx b advice id request h a
+pub data Rows (ctx : Context) (b : Book) (advice : Advice) (id : TxnId) (request : List ℕ) (h : RequestHeader) (a : Answered) : Type 0 where
+  Known : (row : Row) → row_of id b.rows ≡ Some row → row.request ≡ request → a.book ≡ b → a.bytes ≡ answer_text ctx h row → Rows ctx b advice id request h a
   New : row_of id b.rows ≡ None → list_all serial_fits (new_row ctx b advice id request).rulings ≡ true → has_verdicts ctx b advice id request ≡ true → a.book ≡ with_row b (new_row ctx b advice id request)
-      → a.bytes ≡ answer_text ctx h (new_row ctx b advice id request).rulings → Rows ctx b advice id request h a
+      → a.bytes ≡ answer_text ctx h (new_row ctx b advice id request) → Rows ctx b advice id request h a
 
 -- an answered request is readable and routed to this payer
-pub record Ruled_on (ctx : Context) (b : Book) (advice : List Ruling) (id : TxnId) (request : List ℕ) (a : Answered) : Type 0 where
+pub record Ruled_on (ctx : Context) (b : Book) (advice : Advice) (id : TxnId) (request : List ℕ) (a : Answered) : Type 0 where
   pub header : RequestHeader
   pub reads : readable ctx request ≡ Some header
   pub routed : payer_for ctx id header ≡ Some b.payer
   pub rows : Rows ctx b advice id request header a
 
-entered_rows : (ctx : Context) (b : Book) (advice : List Ruling) (id : TxnId) (request : List ℕ) (h : RequestHeader) (a : Answered) → row_of id b.rows ≡ None
+entered_rows : (ctx : Context) (b : Book) (advice : Advice) (id : TxnId) (request : List ℕ) (h : RequestHeader) (a : Answered) → row_of id b.rows ≡ None
     → entered_row ctx b h (has_verdicts ctx b advice id request) (new_row ctx b advice id request) ≡ Ok a → Rows ctx b advice id request h a
 entered_rows ctx b advice id request h a fresh e =
     let p = cond_ok (list_all serial_fits (new_row ctx b advice id request).rulings) _ Refusal.SerialsUsedUp a e in
@@ -51,7 +51,7 @@ entered_rows ctx b advice id request h a fresh e =
     let same = same_ok _ a q.1 in
     New fresh p.0 q.0 (ap (λ (x : Answered). x.book) (sym same)) (ap (λ (x : Answered). x.bytes) (sym same))
 
-by_rows : (ctx : Context) (b : Book) (advice : List Ruling) (id : TxnId) (request : List ℕ) (h : RequestHeader) (a : Answered) (o : Option Row) → row_of id b.rows ≡ o → answered_by ctx b advice id request h o ≡ Ok a → Rows ctx b advice id request h a
+by_rows : (ctx : Context) (b : Book) (advice : Advice) (id : TxnId) (request : List ℕ) (h : RequestHeader) (a : Answered) (o : Option Row) → row_of id b.rows ≡ o → answered_by ctx b advice id request h o ≡ Ok a → Rows ctx b advice id request h a
 by_rows ctx b advice id request h a (Some row) is e =
     let p = cond_ok (bytes_eq row.request request) _ Refusal.NumberReused a e in
     let same = same_ok _ a p.1 in
@@ -60,14 +60,14 @@ by_rows ctx b advice id request h a None is e =
     let p = cond_ok (nat_lt (length b.rows) b.settings.cap) (entered_row ctx b h (has_verdicts ctx b advice id request) (new_row ctx b advice id request)) Refusal.BookFull a e in
     entered_rows ctx b advice id request h a is p.1
 
-readable_rows : (ctx : Context) (b : Book) (advice : List Ruling) (id : TxnId) (request : List ℕ) (a : Answered) (o : Option RequestHeader) → readable ctx request ≡ o → answered_readable ctx b advice id request o ≡ Ok a → Ruled_on ctx b advice id request a
+readable_rows : (ctx : Context) (b : Book) (advice : Advice) (id : TxnId) (request : List ℕ) (a : Answered) (o : Option RequestHeader) → readable ctx request ≡ o → answered_readable ctx b advice id request o ≡ Ok a → Ruled_on ctx b advice id request a
 readable_rows ctx b advice id request a None is e = absurd cc
 readable_rows ctx b advice id request a (Some h) is e =
     let p = cond_ok (is_payer b.payer (payer_for ctx id h)) (answered_by ctx b advice id request h (row_of id b.rows)) Refusal.NotOurs a e in
     record { header = h; reads = is; routed = payer_same b.payer (payer_for ctx id h) p.0; rows = by_rows ctx b advice id request h a (row_of id b.rows) refl p.1 }
 
 -- what an answered request says of the book
-pub answered_ruled : (ctx : Context) (b : Book) (advice : List Ruling) (id : TxnId) (request : List ℕ) (a : Answered) → answered ctx b advice id request ≡ Ok a → Ruled_on ctx b advice id request a
+pub answered_ruled : (ctx : Context) (b : Book) (advice : Advice) (id : TxnId) (request : List ℕ) (a : Answered) → answered ctx b advice id request ≡ Ok a → Ruled_on ctx b advice id request a
 unfolding answered
 answered_ruled ctx b advice id request a e = readable_rows ctx b advice id request a (readable ctx request) refl e
 
@@ -79,7 +79,7 @@ may_pay ctx given w n b accepts x =
     record { payer = omega (arith, x.payer, g.0); payer_fits = omega (arith, x.payer, g.1); serial = s }
 
 -- the row that is entered can be written
-pub new_row_written : (ctx : Context) (given : WorldSettings) (w : World) (n : ℕ) (b : Book) (advice : List Ruling) (id : TxnId) (request : List ℕ) (h : RequestHeader) → AdvisesWell advice → Laws ctx → Accepts ctx given → SoundBook ctx given w n b
+pub new_row_written : (ctx : Context) (given : WorldSettings) (w : World) (n : ℕ) (b : Book) (advice : Advice) (id : TxnId) (request : List ℕ) (h : RequestHeader) → AdvisesWell advice.rulings → Laws ctx → Accepts ctx given → SoundBook ctx given w n b
     → readable ctx request ≡ Some h → list_all serial_fits (new_row ctx b advice id request).rulings ≡ true
     → (length (new_row ctx b advice id request).rulings ≡ h.count) × AllByRecursion IsRuling (new_row ctx b advice id request).rulings
 new_row_written ctx given w n b advice id request h well laws accepts x reads fits = (
@@ -133,8 +133,8 @@ carries_reply ctx v e a fits short d =
       says = d;
     }
 
-answer_step : (ctx : Context) (given : WorldSettings) (w : World) (n : ℕ) (b : Book) (advice : List Ruling) (from : Node) (bytes : List ℕ) (c : Carries ctx w bytes) (a : Answered)
-    → AdvisesWell advice → Laws ctx → Accepts ctx given → Sound ctx given w → numbered w.payers n ≡ Some (Up b) → asked w c.envelope.id ≡ Some c.envelope.payload
+answer_step : (ctx : Context) (given : WorldSettings) (w : World) (n : ℕ) (b : Book) (advice : Advice) (from : Node) (bytes : List ℕ) (c : Carries ctx w bytes) (a : Answered)
+    → AdvisesWell advice.rulings → Laws ctx → Accepts ctx given → Sound ctx given w → numbered w.payers n ≡ Some (Up b) → asked w c.envelope.id ≡ Some c.envelope.payload
     → (r : Ruled_on ctx b advice c.envelope.id c.envelope.payload a) → Rows ctx b advice c.envelope.id c.envelope.payload r.header a
     → Kept_sound ctx given w (with_payer w n (Up a.book) (record { to = from; bytes = ctx.envelope (answer_envelope c.envelope.id a.bytes) } ∷ []))
 answer_step ctx given w n b advice from bytes c a well laws accepts x is asks r (Known row found same book text) =
@@ -145,12 +145,12 @@ answer_step ctx given w n b advice from bytes c a well laws accepts x is asks r 
     let l : Later ctx w v = payer_later ctx w n (Up b) (Up a.book) sent is (subst (RowsStay b) (sym book) (λ i q h. h)) in
     let s : SoundRow ctx w n b.rows row = Rattle.claim_model.proofs.Lists.find_all (SoundRow ctx w n b.rows) _ b.rows row sb.rows found in
     let there : row_at v n id ≡ Some row = there_in w n (Up b) (Up a.book) sent id row is (subst (λ (q : Book). row_of id q.rows ≡ Some row) (sym book) found) in
-    let d : decided ctx v id ≡ Some (answer_text ctx r.header row.rulings) =
+    let d : decided ctx v id ≡ Some (answer_text ctx r.header row) =
     decided_routed ctx v id c.envelope.payload r.header n row (l.asks id c.envelope.payload asks) r.reads (r.routed ∙ ap (λ (k : ℕ). Some k) sb.payer) there same in
     let same_header : s.header ≡ r.header = same_some _ _ (sym s.reads ∙ (ap (readable ctx) same ∙ r.reads)) in
-    let short = (row_spells ctx c.envelope.payload r.header row.rulings laws r.reads (s.count ∙ ap (λ (h : RequestHeader). h.count) same_header) s.written).short in
+    let short = (row_spells ctx c.envelope.payload r.header row laws r.reads (s.count ∙ ap (λ (h : RequestHeader). h.count) same_header) s.written).short in
     let reply : Carries ctx v (ctx.envelope (answer_envelope id a.bytes)) =
-    subst (λ (t : List ℕ). Carries ctx v (ctx.envelope (answer_envelope id t))) (sym text) (carries_reply ctx v c.envelope (answer_text ctx r.header row.rulings) c.fits short d) in
+    subst (λ (t : List ℕ). Carries ctx v (ctx.envelope (answer_envelope id t))) (sym text) (carries_reply ctx v c.envelope (answer_text ctx r.header row) c.fits short d) in
     record {
       sound = sound_payer ctx given w n (Up b) (Up a.book) sent x is l (same_rows_book ctx given w v n b a.book l (ap (λ (q : Book). q.rows) book) (ap (λ (q : Book). q.payer) book) (ap (λ (q : Book). q.settings) book) sb) (reply, tt);
       later = l;
@@ -176,10 +176,10 @@ answer_step ctx given w n b advice from bytes c a well laws accepts x is asks r 
     let after : SoundBook ctx given v n (with_row b row) =
     record { payer = sb.payer; given_as = sb.given_as; stands = sb.stands; settings = sb.settings; rows = all_append (SoundRow ctx v n (b.rows ++ row ∷ [])) b.rows (row ∷ []) old_sound (new_sound, tt) } in
     let there : row_at v n id ≡ Some row = there_in w n (Up b) (Up a.book) sent id row is (subst (λ (q : Book). row_of id q.rows ≡ Some row) (sym book) found) in
-    let d : decided ctx v id ≡ Some (answer_text ctx r.header row.rulings) = decided_routed ctx v id request r.header n row asks_v r.reads routed there refl in
-    let short = (row_spells ctx request r.header row.rulings laws r.reads written.0 written.1).short in
+    let d : decided ctx v id ≡ Some (answer_text ctx r.header row) = decided_routed ctx v id request r.header n row asks_v r.reads routed there refl in
+    let short = (row_spells ctx request r.header row laws r.reads written.0 written.1).short in
     let reply : Carries ctx v (ctx.envelope (answer_envelope id a.bytes)) =
-    subst (λ (t : List ℕ). Carries ctx v (ctx.envelope (answer_envelope id t))) (sym text) (carries_reply ctx v c.envelope (answer_text ctx r.header row.rulings) c.fits short d) in
+    subst (λ (t : List ℕ). Carries ctx v (ctx.envelope (answer_envelope id t))) (sym text) (carries_reply ctx v c.envelope (answer_text ctx r.header row) c.fits short d) in
     record {
       sound = sound_payer ctx given w n (Up b) (Up a.book) sent x is l (subst (SoundBook ctx given v n) (sym book) after) (reply, tt);
       later = l;
@@ -213,10 +213,10 @@ pub asked_first : (b : Bool) (o : Outcome (Power Book Book)) (next : Power Book 
 asked_first true o next sent e = (refl, e)
 asked_first false o next sent e = absurd cc
 
-pub unadvised_well : AdvisesWell unadvised
+pub unadvised_well : AdvisesWell unadvised.rulings
 unadvised_well place claimed v e = absurd (nothing place v e)
   where
-    nothing : (place : ℕ) (v : Verdict) → verdict_in claimed (numbered unadvised place) ≡ Some v → ⊥
+    nothing : (place : ℕ) (v : Verdict) → verdict_in claimed (numbered unadvised.rulings place) ≡ Some v → ⊥
     nothing zero v e = cc
     nothing (suc k) v e = cc
 
@@ -225,8 +225,8 @@ pub advises_well : (ctx : Context) → Laws ctx → (o : Option Answer) (advice 
 advises_well ctx laws None advice is = unadvised_well
 advises_well ctx laws (Some answer) advice is = laws.advices advice answer is
 
-takes_sound : (ctx : Context) (given : WorldSettings) (w : World) (n : ℕ) (b : Book) (advice : List Ruling) (from : Node) (bytes : List ℕ) (next : Power Book Book) (sent : List Sent)
-    → AdvisesWell advice → Laws ctx → Accepts ctx given → Sound ctx given w → numbered w.payers n ≡ Some (Up b) → (c : Carries ctx w bytes) → payer_takes ctx b advice from (ctx.read_envelope bytes) ≡ Done next sent
+takes_sound : (ctx : Context) (given : WorldSettings) (w : World) (n : ℕ) (b : Book) (advice : Advice) (from : Node) (bytes : List ℕ) (next : Power Book Book) (sent : List Sent)
+    → AdvisesWell advice.rulings → Laws ctx → Accepts ctx given → Sound ctx given w → numbered w.payers n ≡ Some (Up b) → (c : Carries ctx w bytes) → payer_takes ctx b advice from (ctx.read_envelope bytes) ≡ Done next sent
     → Kept_sound ctx given w (with_payer w n next sent)
 takes_sound ctx given w n b advice from bytes next sent well laws accepts x is c e =
     let t = takes_parts (is_request c.envelope) (after_answer ctx from c.envelope.id (answered ctx b advice c.envelope.id c.envelope.payload)) next sent (ap (payer_takes ctx b advice from) (sym (carries_reads ctx w bytes laws c)) ∙ e) in

@@ -21,7 +21,7 @@ use Rattle.claim_model.proofs.Small.{small}
 use Rattle.claim_model.proofs.Schedules.{pharmacy, one, refusals_by, c1, v1, auth_1, id, briefs, auths, a1}
 
 abbrev pub a_payer : PayerSettings
-a_payer = record { book = record { serial = 1; cap = 1000; asks = false }; plan = record { fee = 150; copay = 1000; prices = [] } }
+a_payer = record { book = record { serial = 1; cap = 1000; asks = false; reversals = false; carries = false }; plan = record { fee = 150; copay = 1000; prices = [] } }
 
 -- who reversed the payment with an authorization
 abbrev pub reverser : Auth → Option Book → Option (Option TxnId)

@@ -10,13 +10,13 @@ use Rattle.claim_profile.specs.declared.answer_reading.AnswerFault.{AnswerFault}
 use Rattle.claim_profile.specs.declared.answer_reading.AnswerFault.TheVariants.{NoStatus, BadStatus, BadAmount, BadRejects}
 use Rattle.claim_profile.specs.Fields.{values_in, required}
 use Rattle.claim_profile.specs.Order.{number_up_to, amount_in_cents}
-use Rattle.claim_profile.specs.Ruling.{AnswerParts, ◌>>=◌, or_fault, status_of, stands_beside, checked_status, status_in, authorization_in, claim_in, money_of, amount_at, fee_in, money_in, code_of, IsCode, codes_of, counted_codes, rejects_in, payment_in, reversal_in, rejection_in, ruling_under, ruling_in, rulings_in, answer_with, said_by}
+use Rattle.claim_profile.specs.Ruling.{AnswerParts, ◌>>=◌, or_fault, status_of, again_by, or_status, status_by, stands_beside, checked_status, status_in, authorization_in, claim_in, money_of, amount_at, fee_in, money_in, code_of, IsCode, codes_of, counted_codes, rejects_in, payment_in, reversal_in, rejection_in, ruling_under, ruling_in, rulings_in, answer_with, said_by}
 use Rattle.claim_model.specs.Words.{Amounts, Code, Ruling, Paid, Duplicate, Answer}
 use Rattle.claim_model.specs.Judgement.{Verdict, Pays, Rejects, verdict_in}
 use Rattle.claim_model.specs.Laws.{IsAmounts, IsRejects, IsVerdict, AdvisesWell}
 use Rattle.claim_model.specs.Bytes.{answer_in}
 use Rattle.claim_profile.proofs.CodeLemmas.{code_is}
-use Rattle.claim_profile.proofs.Unnamed.{fee_there}
+use Rattle.claim_profile.proofs.Unnamed.{fee_there, said_again}
 use Rattle.claim_model.proofs.Options.{map_some, then_some, same_some, same_ok}
 use Rattle.claim_model.proofs.BytesLaws.{AmountsInRange, amount_fits}
 
@@ -134,13 +134,29 @@ checked_some : (h : Response) (o : _) (s : _) → checked_status h o ≡ Ok s �
 checked_some h None s e = absurd cc
 checked_some h (Some a) s e = ap (λ x. Some x) (if_ok (stands_beside h a) a s e)
 
+status_leads : AmountsInRange → (by : _) (group : List SegmentParts) (text : List ℕ) (s : _) → status_of text ≡ Some s → Leads (ruling_under by group) s
+status_leads law by group text s e =
+    by_status (ruling_under by group) _ _ _ _ (payment_says law by group) (duplicate_says law by group) (reversal_says by group) (rejection_says group)
+    (bytes_eq text (codes "P")) (bytes_eq text (codes "D")) (bytes_eq text (codes "A")) (bytes_eq text (codes "R")) s e
+
+-- a status that is said of a reversal again leads where that of a reversal does
+if_leads : {S : Type 0} (f : S → Result Ruling AnswerFault) (a s : S) (t : Bool) → Leads f a → cond t (Some a) None ≡ Some s → Leads f s
+if_leads f a s true y h = subst (Leads f) (same_some a s h) y
+if_leads f a s false y h = absurd cc
+
+repeated_leads : (by : _) (group : List SegmentParts) (text : List ℕ) (o : _) (s : _) → ((x : _) → o ≡ Some x → Leads (ruling_under by group) x) → or_status o (again_by by text) ≡ Some s → Leads (ruling_under by group) s
+repeated_leads by group text (Some x) s z h = subst (Leads (ruling_under by group)) (same_some x s h) (z x refl)
+repeated_leads by group text None s z h = if_leads (ruling_under by group) _ s (bytes_eq text (codes "S")) (reversal_says by group) (said_again by text s h)
+
+said_leads : AmountsInRange → (by : _) (group : List SegmentParts) (text : List ℕ) (s : _) → status_by by text ≡ Some s → Leads (ruling_under by group) s
+said_leads law by group text s e = repeated_leads by group text (status_of text) s (status_leads law by group text) e
+
 ruling_says : AmountsInRange → (by : _) (h : Response) (group : List SegmentParts) (r : Ruling) → ruling_in by h group ≡ Ok r → SaysWell r
 unfolding ruling_in
 ruling_says law by h group r e =
-    let s = bind_ok (status_in h group) (ruling_under by group) r e in
-    let t = bind_ok (or_fault NoStatus (required (λ value. Some value) (values_in (codes "21") (codes "AN") group))) (λ text. checked_status h (status_of text)) s.0 s.1 in
-    by_status (ruling_under by group) _ _ _ _ (payment_says law by group) (duplicate_says law by group) (reversal_says by group) (rejection_says group)
-    (bytes_eq t.0 (codes "P")) (bytes_eq t.0 (codes "D")) (bytes_eq t.0 (codes "A")) (bytes_eq t.0 (codes "R")) s.0 (checked_some h (status_of t.0) s.0 t.2) r s.2
+    let s = bind_ok (status_in by h group) (ruling_under by group) r e in
+    let t = bind_ok (or_fault NoStatus (required (λ value. Some value) (values_in (codes "21") (codes "AN") group))) (λ text. checked_status h (status_by by text)) s.0 s.1 in
+    said_leads law by group t.0 s.0 (checked_some h (status_by by t.0) s.0 t.2) r s.2
 
 rulings_say : AmountsInRange → (by : _) (h : Response) (groups : List (List SegmentParts)) (rs : List Ruling) → rulings_in by h groups ≡ Ok rs → AllByRecursion SaysWell rs
 unfolding rulings_in

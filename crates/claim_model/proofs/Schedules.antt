@@ -1,8 +1,8 @@
 -- Schedules of events that compute: what the definitions say of whole stories.
-use Rattle.std.proofs.Common.{◌≡◌, ℕ, ◌+◌, true, false, List, [], ◌∷◌, ◌++◌, map, Option, Some, None, Result, Ok, Err, refl}
+use Rattle.std.proofs.Common.{Bool, ◌≡◌, ℕ, ◌+◌, true, false, List, [], ◌∷◌, ◌++◌, map, Option, Some, None, Result, Ok, Err, refl}
 use Rattle.std.specs.Prelude.{option_map}
 use Rattle.claim_profile.specs.Transaction.{transaction_code}
-use Rattle.claim_model.specs.Words.{SetPrice, SetTerms, TxnId, Envelope, Auth, Ruling, Paid, Duplicate, Reversed, Rejected, BadBin, DuplicateClaim, ReversalNotProcessed}
+use Rattle.claim_model.specs.Words.{Advice, SetPrice, SetTerms, TxnId, Envelope, Auth, Ruling, Paid, Duplicate, Reversed, Rejected, BadBin, DuplicateClaim, ReversalNotProcessed}
 use Rattle.claim_model.specs.Context.{Context}
 use Rattle.claim_model.specs.Readable.{readable, rulings_in, request_envelope, answer_envelope}
 use Rattle.claim_model.specs.Refusal.{Refusal, Down, AlreadyUp, NoSuchNode, NoSuchPacket, NotWaiting, AlreadySettled, JournalFull, SerialsUsedUp, BookFull, NumberReused, NotOurs, Unreadable, NotMine, NoSuchNumber, Differs, NotAdvised, NotAsked}
@@ -24,7 +24,7 @@ pharmacy provider nodes cap = record { qualifier = []; provider = provider ∷ [
 -- a pharmacy, two switches and a payer
 unfoldable pub one : World
 unfolding pharmacy
-one = opening (record { pharmacies = pharmacy 7 (1 ∷ 2 ∷ []) 100 ∷ []; switches = 64 ∷ 64 ∷ []; payers = record { book = record { serial = 1; cap = 1000; asks = false }; plan = record { fee = 150; copay = 1000; prices = [] } } ∷ [] })
+one = opening (record { pharmacies = pharmacy 7 (1 ∷ 2 ∷ []) 100 ∷ []; switches = 64 ∷ 64 ∷ []; payers = record { book = record { serial = 1; cap = 1000; asks = false; reversals = false; carries = false }; plan = record { fee = 150; copay = 1000; prices = [] } } ∷ [] })
 
 -- what became of each event: none where it was accepted
 abbrev pub refusal_in : Outcome World → Option Refusal
@@ -80,7 +80,7 @@ id pharmacy number = record { pharmacy = pharmacy; number = number }
 
 -- requests that go straight to an empty book of payer 1
 abbrev pub book : ℕ → ℕ → Book
-book serial cap = record { payer = 1; settings = record { serial = serial; cap = cap; asks = false }; plan = record { fee = 150; copay = 1000; prices = [] }; rows = [] }
+book serial cap = record { payer = 1; settings = record { serial = serial; cap = cap; asks = false; reversals = false; carries = false }; plan = record { fee = 150; copay = 1000; prices = [] }; rows = [] }
 
 abbrev pub book_next : Book → Result Answered Refusal → Book
 book_next b (Ok a) = a.book
@@ -132,11 +132,12 @@ all_or_nothing = refl
 
 -- a book whose payer asks, with advices: requests in turn, each with the rulings of its advice
 abbrev pub asking : ℕ → Book
-asking serial = record { payer = 1; settings = record { serial = serial; cap = 100; asks = true }; plan = record { fee = 150; copay = 1000; prices = [] }; rows = [] }
+asking serial = record { payer = 1; settings = record { serial = serial; cap = 100; asks = true; reversals = false; carries = false }; plan = record { fee = 150; copay = 1000; prices = [] }; rows = [] }
 
 unfoldable pub advised : Book → ℕ → List (List Ruling × List ℕ) → List (Result (List Ruling) Refusal)
 advised b n [] = []
-advised b n (r ∷ rs) = told_by (answered small b r.0 (id 1 n) r.1) ∷ advised (book_next b (answered small b r.0 (id 1 n) r.1)) (n + 1) rs
+advised b n (r ∷ rs) = let said : Advice = record { rulings = r.0; text = [] } in
+    told_by (answered small b said (id 1 n) r.1) ∷ advised (book_next b (answered small b said (id 1 n) r.1)) (n + 1) rs
 
 -- what an adjudication system says: it pays, under whatever authorization; it says that it paid before; it pays another prescription; it rejects;
 -- or it says nothing of use
@@ -165,6 +166,20 @@ asked_for_four : advised (asking 1) 1 ((says_paid ∷ says_paid ∷ [], c17) ∷
 unfolding advised one step answered readable transaction_code ruling judged submitted ticked due requested responded heard stopped started counted held refusals_by pharmacy
 asked_for_four = refl
 
+-- a book whose payer asks about reversals too
+abbrev pub asking_all : Book
+asking_all = record { payer = 1; settings = record { serial = 1; cap = 100; asks = true; reversals = true; carries = false }; plan = record { fee = 150; copay = 1000; prices = [] }; rows = [] }
+
+abbrev pub says_reversed : ℕ → Ruling
+says_reversed prescription = Reversed (record { payer = 9; serial = 9 }) prescription
+
+-- a payment is taken back where the advice says so of its prescription, and not without an advice; a rejected reversal leaves it standing. A
+-- reversal for which there is no payment is never asked about
+asked_reversals : advised asking_all 1 ((says_paid ∷ [], c1) ∷ ([], v1) ∷ (says_paid ∷ [], v1) ∷ (says_reversed 5 ∷ [], v1) ∷ (says_no ∷ [], v1) ∷ ([], c1) ∷ (says_reversed 123456 ∷ [], v1) ∷ ([], v1) ∷ [])
+    ≡ Ok (Paid auth_1 123456 all_amounts ∷ []) ∷ Err NotAdvised ∷ Err NotAdvised ∷ Err NotAdvised ∷ Ok (Rejected (BadBin ∷ []) ∷ []) ∷ Ok (Duplicate auth_1 123456 all_amounts ∷ []) ∷ Ok (Reversed auth_1 123456 ∷ []) ∷ Ok (Rejected (ReversalNotProcessed ∷ []) ∷ []) ∷ []
+unfolding advised one step answered readable transaction_code ruling judged submitted ticked due requested responded heard stopped started counted held refusals_by pharmacy
+asked_reversals = refl
+
 -- an answer's bytes, as an advice
 abbrev pub an_answer : List ℕ
 an_answer = 7 ∷ 1 ∷ 65 ∷ 1 ∷ 1 ∷ 1 ∷ 123456 ∷ []
@@ -175,12 +190,29 @@ unfolding one step answered readable transaction_code ruling judged submitted ti
 advice_unasked = refl
 
 abbrev pub asked_world : World
-asked_world = opening (record { pharmacies = pharmacy 7 (1 ∷ 2 ∷ []) 100 ∷ []; switches = 64 ∷ 64 ∷ []; payers = record { book = record { serial = 1; cap = 1000; asks = true }; plan = record { fee = 150; copay = 1000; prices = [] } } ∷ [] })
+asked_world = opening (record { pharmacies = pharmacy 7 (1 ∷ 2 ∷ []) 100 ∷ []; switches = 64 ∷ 64 ∷ []; payers = record { book = record { serial = 1; cap = 1000; asks = true; reversals = false; carries = false }; plan = record { fee = 150; copay = 1000; prices = [] } } ∷ [] })
 
 advice_asked : refusals asked_world (Submission 1 c1 ∷ Delivery 1 ∷ Delivery 2 ∷ Adjudication 2 (5 ∷ []) ∷ Adjudication 2 an_answer ∷ Delivery 2 ∷ Adjudication 2 an_answer ∷ Delivery 3 ∷ Delivery 6 ∷ Delivery 6 ∷ [])
     ≡ None ∷ None ∷ Some NotAdvised ∷ Some NotAdvised ∷ None ∷ None ∷ None ∷ None ∷ None ∷ Some AlreadySettled ∷ []
 unfolding one step answered readable transaction_code ruling judged submitted ticked due requested responded heard stopped started counted held refusals_by pharmacy
 advice_asked = refl
+
+-- what an advice says beside its rulings stands in the answer of a book whose settings say so, also when it is told again, and in no other
+abbrev pub carrying : Bool → Book
+carrying carries = record { payer = 1; settings = record { serial = 1; cap = 100; asks = true; reversals = false; carries = carries }; plan = record { fee = 150; copay = 1000; prices = [] }; rows = [] }
+
+abbrev pub says_more : Advice
+says_more = record { rulings = says_paid ∷ []; text = 7 ∷ 1 ∷ 65 ∷ 1 ∷ 9 ∷ 9 ∷ 123456 ∷ 9 ∷ 5 ∷ 6 ∷ 7 ∷ [] }
+
+abbrev pub bytes_of : Result Answered Refusal → List ℕ
+bytes_of (Ok a) = a.bytes
+bytes_of (Err why) = []
+
+carried_along : bytes_of (answered small (carrying true) says_more (id 1 1) c1) ∷ bytes_of (answered small (book_next (carrying true) (answered small (carrying true) says_more (id 1 1) c1)) unadvised (id 1 1) c1)
+    ∷ bytes_of (answered small (carrying false) says_more (id 1 1) c1) ∷ []
+    ≡ (7 ∷ 1 ∷ 65 ∷ 1 ∷ 1 ∷ 1 ∷ 123456 ∷ 9 ∷ 5 ∷ 6 ∷ 7 ∷ []) ∷ (7 ∷ 1 ∷ 65 ∷ 1 ∷ 1 ∷ 1 ∷ 123456 ∷ 9 ∷ 5 ∷ 6 ∷ 7 ∷ []) ∷ (7 ∷ 1 ∷ 65 ∷ 1 ∷ 1 ∷ 1 ∷ 123456 ∷ []) ∷ []
+unfolding replies one step answered readable transaction_code ruling judged submitted ticked due requested responded heard stopped started counted held refusals_by pharmacy
+carried_along = refl
 
 -- in a full book a known number with its request is answered again, and no new one
 full_book : told_by (answered small (book_next (book 1 1) (answered small (book 1 1) unadvised (id 1 1) c1)) unadvised (id 1 1) c1) ≡ Ok (Paid auth_1 123456 all_amounts ∷ [])
@@ -277,7 +309,7 @@ world_refusals = refl
 
 -- a repeat does not make an entry young: the oldest leaves a full table
 abbrev pub narrow : World
-narrow = opening (record { pharmacies = pharmacy 7 (1 ∷ []) 100 ∷ []; switches = 2 ∷ []; payers = record { book = record { serial = 1; cap = 1000; asks = false }; plan = record { fee = 150; copay = 1000; prices = [] } } ∷ [] })
+narrow = opening (record { pharmacies = pharmacy 7 (1 ∷ []) 100 ∷ []; switches = 2 ∷ []; payers = record { book = record { serial = 1; cap = 1000; asks = false; reversals = false; carries = false }; plan = record { fee = 150; copay = 1000; prices = [] } } ∷ [] })
 
 oldest_leaves : refusals narrow (Submission 1 c1 ∷ Submission 1 (1 ∷ 7 ∷ 4 ∷ 11 ∷ []) ∷ Submission 1 (1 ∷ 7 ∷ 4 ∷ 12 ∷ []) ∷ Delivery 1 ∷ Delivery 2 ∷ Delivery 1 ∷ Delivery 3 ∷ Delivery 4 ∷ Delivery 8 ∷ Delivery 5 ∷ Delivery 9 ∷ [])
     ≡ None ∷ None ∷ None ∷ None ∷ None ∷ None ∷ None ∷ None ∷ Some NotWaiting ∷ None ∷ None ∷ []
@@ -302,7 +334,7 @@ retries_after_start = refl
 
 -- a reversal by another pharmacy reverses nothing
 abbrev pub two : World
-two = opening (record { pharmacies = pharmacy 7 (1 ∷ 2 ∷ []) 100 ∷ pharmacy 8 (2 ∷ 1 ∷ []) 100 ∷ []; switches = 64 ∷ 64 ∷ []; payers = record { book = record { serial = 1; cap = 1000; asks = false }; plan = record { fee = 150; copay = 1000; prices = [] } } ∷ [] })
+two = opening (record { pharmacies = pharmacy 7 (1 ∷ 2 ∷ []) 100 ∷ pharmacy 8 (2 ∷ 1 ∷ []) 100 ∷ []; switches = 64 ∷ 64 ∷ []; payers = record { book = record { serial = 1; cap = 1000; asks = false; reversals = false; carries = false }; plan = record { fee = 150; copay = 1000; prices = [] } } ∷ [] })
 
 abbrev pub others : List Event
 others = Submission 1 c1 ∷ Delivery 1 ∷ Delivery 2 ∷ Delivery 3 ∷ Delivery 4 ∷ Submission 2 (2 ∷ 8 ∷ 4 ∷ 0 ∷ []) ∷ Delivery 5 ∷ Delivery 6 ∷ Delivery 7 ∷ Delivery 8 ∷ []

@@ -1,5 +1,5 @@
 -- A small reading of bytes, in which schedules compute: a request is its code, its provider, its BIN and one number for each group.
-use Rattle.std.proofs.Common.{ℕ, ◌/◌, ◌%◌, cond, ◌==◌, List, [], ◌∷◌, map, length, Option, Some, None, Result, Ok, Err}
+use Rattle.std.proofs.Common.{ℕ, ◌/◌, ◌%◌, cond, ◌==◌, List, [], ◌∷◌, ◌++◌, map, length, Option, Some, None, Result, Ok, Err}
 use Rattle.std.specs.Prelude.{bytes_eq, flat_map, option_map}
 use Rattle.claim_profile.specs.Reject.{code_text}
 use Rattle.claim_profile.specs.Ruling.{code_of}
@@ -43,7 +43,7 @@ code_numbers _ = []
 abbrev pub all_amounts : Amounts
 all_amounts = record { cost = 5570; fee = 150; copay = 1000; total = 4720 }
 
--- a ruling is four numbers
+-- a ruling is four numbers; four that begin with 9 are none, and are passed over
 abbrev pub ruling_numbers : Ruling → List ℕ
 ruling_numbers (Paid a n m) = 1 ∷ a.payer ∷ a.serial ∷ n ∷ []
 ruling_numbers (Duplicate a n m) = 2 ∷ a.payer ∷ a.serial ∷ n ∷ []
@@ -63,7 +63,7 @@ before_all _ _ = None
 
 abbrev pub numbers_rulings : List ℕ → Option (List Ruling)
 numbers_rulings [] = Some []
-numbers_rulings (k ∷ a ∷ b ∷ c ∷ more) = before_all (numbers_ruling k a b c) (numbers_rulings more)
+numbers_rulings (k ∷ a ∷ b ∷ c ∷ more) = cond (k == 9) (numbers_rulings more) (before_all (numbers_ruling k a b c) (numbers_rulings more))
 numbers_rulings _ = None
 
 abbrev pub status_number : Status → ℕ
@@ -72,6 +72,15 @@ status_number RejectedStatus = 82
 
 abbrev pub small_answer : RequestHeader → Status → List Ruling → List ℕ
 small_answer h status rulings = 7 ∷ cond (bytes_eq h.code billing_code) 1 2 ∷ status_number status ∷ flat_map ruling_numbers rulings
+
+-- what is passed over
+abbrev pub passed_over : List ℕ → List ℕ
+passed_over (k ∷ a ∷ b ∷ c ∷ more) = cond (k == 9) (k ∷ a ∷ b ∷ c ∷ passed_over more) (passed_over more)
+passed_over _ = []
+
+abbrev pub small_carried : List ℕ → List ℕ
+small_carried (seven ∷ k ∷ status ∷ more) = passed_over more
+small_carried _ = []
 
 abbrev pub small_read : ℕ → ℕ → ℕ → List ℕ → Option Answer
 small_read seven k status more =
@@ -103,7 +112,8 @@ small =
       route = λ number key. cond (bytes_eq key.bin (4 ∷ [])) (Some 1) None;
       price = λ plan claim. Some all_amounts;
       reprice = λ plan change. Ok plan;
-      answer = small_answer;
+      answer = λ header status rulings carried. small_answer header status rulings ++ carried;
+      carried = λ request rulings said. small_carried said;
       read_answer = small_read_answer;
       read_advice = small_read_answer;
       envelope = small_envelope;

@@ -1,15 +1,15 @@
 -- The rulings of a new row can be written.
-use Rattle.std.proofs.Common.{◌≡◌, ℕ, ◌+◌, ◌<◌, ◌≤◌, Bool, true, false, ◌&&◌, cond, List, [], ◌∷◌, ◌++◌, length, Option, Some, None, Result, Ok, Err, refl, sym, ap, ◌∙◌, subst, arith, leb-true}
+use Rattle.std.proofs.Common.{◌≡◌, ℕ, ◌+◌, ◌<◌, ◌≤◌, Bool, true, false, ◌&&◌, ◌==◌, cond, List, [], ◌∷◌, ◌++◌, length, Option, Some, None, Result, Ok, Err, refl, sym, ap, ◌∙◌, subst, arith, leb-true}
 use Rattle.std.specs.List.{AllByRecursion, list_all}
 use Rattle.std.proofs.lemmas.Bool.{and_parts}
 use Rattle.claim_profile.specs.Ruling.{IsCode}
-use Rattle.claim_model.specs.Words.{TxnId, Amounts, Claim, Reversal, Order, Bills, Reverses, Code, Ruling, Paid, Duplicate, Reversed, Rejected, RequestHeader}
+use Rattle.claim_model.specs.Words.{Advice, TxnId, Auth, Amounts, Claim, Reversal, Order, Bills, Reverses, Code, Ruling, Paid, Duplicate, Reversed, Rejected, RequestHeader}
 use Rattle.claim_model.specs.Context.{Context}
-use Rattle.claim_model.specs.Laws.{Laws, IsClaimOf, IsOrderOf, IsAuth, IsAmounts, IsVerdict, AdvisesWell, IsRuling, IsPrescription, IsRejects}
+use Rattle.claim_model.specs.Laws.{Laws, IsClaimOf, IsOrderOf, IsAuth, IsAmounts, IsVerdict, IsConsent, AdvisesWell, IsRuling, IsPrescription, IsRejects}
 use Rattle.claim_model.specs.Ruled.{Ruled, ruled, ruled_from}
 use Rattle.claim_model.specs.Payments.{Payment, payment_by, payments, is_standing, standing}
 use Rattle.claim_model.specs.Rows.{Row, Book, ruled_row, ruled_rows}
-use Rattle.claim_model.specs.Judgement.{standing_for, only, payment_to_reverse, Unpriced, same_claim, is_for, judged_claim, judged_reversal, judged, next_serial, next_auth, Verdict, Pays, Rejects, planned, verdict_in, verdict_of, priced, ruling_of, ruling, rulings_from}
+use Rattle.claim_model.specs.Judgement.{standing_for, only, payment_to_reverse, Unpriced, same_claim, is_for, judged_claim, judged_reversal, judged, next_serial, next_auth, Verdict, Pays, Rejects, planned, verdict_in, verdict_of, priced, Consent, Allows, Denies, consent_in, asks_reversals, consent_of, taken_back, ruling_of, ruling, rulings_from}
 use Rattle.claim_model.specs.Book.{serial_fits}
 use Rattle.claim_model.specs.Numbered.{numbered}
 use Rattle.claim_model.proofs.Lists.{all_append, all_filter, find_all}
@@ -63,14 +63,14 @@ planned_written : (ctx : Context) (laws : Laws ctx) (b : Book) (c : Claim) (h : 
 planned_written ctx laws b c h of_it None e = one_code _ refl
 planned_written ctx laws b c h of_it (Some m) e = laws.prices b.plan h c m of_it e
 
-verdict_written : (ctx : Context) (laws : Laws ctx) (b : Book) (advice : List Ruling) (place : ℕ) (c : Claim) (h : RequestHeader) → AdvisesWell advice → IsClaimOf h c → (v : Verdict) → verdict_of ctx b advice place c ≡ Some v → IsVerdict v
+verdict_written : (ctx : Context) (laws : Laws ctx) (b : Book) (advice : Advice) (place : ℕ) (c : Claim) (h : RequestHeader) → AdvisesWell advice.rulings → IsClaimOf h c → (v : Verdict) → verdict_of ctx b advice place c ≡ Some v → IsVerdict v
 verdict_written ctx laws b advice place c h well of_it v e = by_asks b.settings.asks e
   where
-    by_asks : (t : Bool) → cond t (verdict_in c.fill.prescription (numbered advice place)) (Some (planned (ctx.price b.plan c))) ≡ Some v → IsVerdict v
+    by_asks : (t : Bool) → cond t (verdict_in c.fill.prescription (numbered advice.rulings place)) (Some (planned (ctx.price b.plan c))) ≡ Some v → IsVerdict v
     by_asks true k = well place c.fill.prescription v k
     by_asks false k = subst IsVerdict (same_some _ v k) (planned_written ctx laws b c h of_it (ctx.price b.plan c) refl)
 
-judged_claim_written : (ctx : Context) (laws : Laws ctx) (b : Book) (advice : List Ruling) (before : List Ruled) (place : ℕ) (c : Claim) (h : RequestHeader) (o : Option Payment) → AdvisesWell advice → MayPay b → IsClaimOf h c
+judged_claim_written : (ctx : Context) (laws : Laws ctx) (b : Book) (advice : Advice) (before : List Ruled) (place : ℕ) (c : Claim) (h : RequestHeader) (o : Option Payment) → AdvisesWell advice.rulings → MayPay b → IsClaimOf h c
     → ((p : Payment) → o ≡ Some p → IsWritten p) → serial_fits (ruling_of ctx b advice before place (judged_claim c o)) ≡ true → IsRuling (ruling_of ctx b advice before place (judged_claim c o))
 judged_claim_written ctx laws b advice before place c h None well may of_it w s =
     priced_written ctx h b before c (verdict_of ctx b advice place c) may of_it.prescription (verdict_written ctx laws b advice place c h well of_it) s
@@ -80,12 +80,36 @@ judged_claim_written ctx laws b advice before place c h (Some p) well may of_it 
     go true = let q = w p refl in (q.0, of_it.prescription, q.1)
     go false = one_code _ refl
 
-judged_reversal_written : (ctx : Context) (b : Book) (advice : List Ruling) (before : List Ruled) (place : ℕ) (v : Reversal) (o : Option Payment) → IsPrescription v.prescription
-    → ((p : Payment) → o ≡ Some p → IsWritten p) → IsRuling (ruling_of ctx b advice before place (judged_reversal v o))
-judged_reversal_written ctx b advice before place v None n w = one_code _ refl
-judged_reversal_written ctx b advice before place v (Some p) n w = ((w p refl).0, n)
+-- codes that deny a reversal are those of an advice, and can be written as those that reject a claim
+pub consented_written : (asked : ℕ) (o : Option Ruling) → ((n : ℕ) (v : Verdict) → verdict_in n o ≡ Some v → IsVerdict v) → (k : Consent) → consent_in asked o ≡ Some k → IsConsent k
+consented_written asked None well k e = absurd cc
+consented_written asked (Some (Paid auth prescription amounts)) well k e = absurd cc
+consented_written asked (Some (Duplicate auth prescription amounts)) well k e = absurd cc
+consented_written asked (Some (Reversed auth prescription)) well k e = by_test (prescription == asked) e
+  where
+    by_test : (t : Bool) → cond t (Some Allows) None ≡ Some k → IsConsent k
+    by_test true h = subst IsConsent (same_some Allows k h) tt
+    by_test false h = absurd cc
+consented_written asked (Some (Rejected codes)) well k e = subst IsConsent (same_some (Denies codes) k e) (well asked (Rejects codes) refl)
 
-pub ruling_written : (ctx : Context) (laws : Laws ctx) (b : Book) (advice : List Ruling) (before : List Ruled) (place : ℕ) (h : RequestHeader) (order : Result Order (List Code)) → AdvisesWell advice → MayPay b → AllByRecursion RuledWritten before
+consent_written : (b : Book) (advice : Advice) (place : ℕ) (v : Reversal) → AdvisesWell advice.rulings → (k : Consent) → consent_of b advice place v ≡ Some k → IsConsent k
+consent_written b advice place v well k e = by_asks (asks_reversals b.settings) e
+  where
+    by_asks : (t : Bool) → cond t (consent_in v.prescription (numbered advice.rulings place)) (Some Allows) ≡ Some k → IsConsent k
+    by_asks true h = consented_written v.prescription (numbered advice.rulings place) (λ n w q. well place n w q) k h
+    by_asks false h = subst IsConsent (same_some Allows k h) tt
+
+taken_back_written : (auth : Auth) (v : Reversal) (o : Option Consent) → IsAuth auth → IsPrescription v.prescription → ((k : Consent) → o ≡ Some k → IsConsent k) → IsRuling (taken_back auth v o)
+taken_back_written auth v None a n w = one_code _ refl
+taken_back_written auth v (Some Allows) a n w = (a, n)
+taken_back_written auth v (Some (Denies codes)) a n w = w (Denies codes) refl
+
+judged_reversal_written : (ctx : Context) (b : Book) (advice : Advice) (before : List Ruled) (place : ℕ) (v : Reversal) (o : Option Payment) → AdvisesWell advice.rulings → IsPrescription v.prescription
+    → ((p : Payment) → o ≡ Some p → IsWritten p) → IsRuling (ruling_of ctx b advice before place (judged_reversal v o))
+judged_reversal_written ctx b advice before place v None well n w = one_code _ refl
+judged_reversal_written ctx b advice before place v (Some p) well n w = taken_back_written p.auth v (consent_of b advice place v) (w p refl).0 n (consent_written b advice place v well)
+
+pub ruling_written : (ctx : Context) (laws : Laws ctx) (b : Book) (advice : Advice) (before : List Ruled) (place : ℕ) (h : RequestHeader) (order : Result Order (List Code)) → AdvisesWell advice.rulings → MayPay b → AllByRecursion RuledWritten before
     → IsOrderOf h order → serial_fits (ruling ctx b advice before place order) ≡ true → IsRuling (ruling ctx b advice before place order)
 unfolding ruling judged
 ruling_written ctx laws b advice before place h (Err codes) well may w o s = o
@@ -93,10 +117,10 @@ ruling_written ctx laws b advice before place h (Ok (Bills c)) well may w o s =
     judged_claim_written ctx laws b advice before place c h (standing_for c.fill before) well may o
     (λ p e. find_all IsWritten _ (standing before) p (standing_written before w) e) s
 ruling_written ctx laws b advice before place h (Ok (Reverses v)) well may w o s =
-    judged_reversal_written ctx b advice before place v (payment_to_reverse v before) o.prescription
+    judged_reversal_written ctx b advice before place v (payment_to_reverse v before) well o.prescription
     (λ p e. only_all IsWritten _ p (all_filter IsWritten (λ (q : Payment). is_for v q.claim) (standing before) (standing_written before w)) e)
 
-pub rulings_written : (ctx : Context) (laws : Laws ctx) (b : Book) (advice : List Ruling) (before : List Ruled) (h : RequestHeader) (id : TxnId) (place : ℕ) (orders : List (Result Order (List Code))) → AdvisesWell advice → MayPay b
+pub rulings_written : (ctx : Context) (laws : Laws ctx) (b : Book) (advice : Advice) (before : List Ruled) (h : RequestHeader) (id : TxnId) (place : ℕ) (orders : List (Result Order (List Code))) → AdvisesWell advice.rulings → MayPay b
     → AllByRecursion RuledWritten before → AllByRecursion (IsOrderOf h) orders → list_all serial_fits (rulings_from ctx b advice before id place orders) ≡ true
     → AllByRecursion IsRuling (rulings_from ctx b advice before id place orders)
 rulings_written ctx laws b advice before h id place [] well may w o s = tt
@@ -105,7 +129,7 @@ rulings_written ctx laws b advice before h id place (order ∷ orders) well may 
     let r : IsRuling (ruling ctx b advice before place order) = ruling_written ctx laws b advice before place h order well may w o.0 p.0 in
     (r, rulings_written ctx laws b advice (before ++ ruled id place order (ruling ctx b advice before place order) ∷ []) h id (place + 1) orders well may (all_append RuledWritten before _ w (r, tt)) o.1 p.1)
 
-pub length_rulings : (ctx : Context) (b : Book) (advice : List Ruling) (before : List Ruled) (id : TxnId) (place : ℕ) (orders : List (Result Order (List Code))) → length (rulings_from ctx b advice before id place orders) ≡ length orders
+pub length_rulings : (ctx : Context) (b : Book) (advice : Advice) (before : List Ruled) (id : TxnId) (place : ℕ) (orders : List (Result Order (List Code))) → length (rulings_from ctx b advice before id place orders) ≡ length orders
 length_rulings ctx b advice before id place [] = refl
 length_rulings ctx b advice before id place (order ∷ orders) = ap Rattle.std.proofs.Common.suc (length_rulings ctx b advice (before ++ ruled id place order (ruling ctx b advice before place order) ∷ []) id (place + 1) orders)
 

@@ -1,5 +1,5 @@
 -- How the crates below read and write bytes, under one table of routes.
-use Rattle.std.specs.Prelude.{List, [], map, Option, Some, None, Result, Ok, Err, option_map}
+use Rattle.std.specs.Prelude.{ℕ, List, [], map, Option, Some, None, Result, Ok, Err, option_map}
 use Rattle.d0_segments.specs.Parts.{TransmissionParts}
 use Rattle.d0_segments.specs.Framing.{request_kind, transmission_of}
 use Rattle.envelope.specs.Envelope.{Opened, envelope_text}
@@ -9,11 +9,12 @@ use Rattle.claim_profile.specs.declared.order_reading.OrderFault.{OrderFault}
 use Rattle.claim_profile.specs.declared.order_reading.OrderFault.TheVariants.{Rejected as Refuses}
 use Rattle.claim_profile.specs.declared.answer_reading.AnswerFault.{AnswerFault}
 use Rattle.claim_profile.specs.Order.{order_of}
-use Rattle.claim_profile.specs.Answer.{answer_text}
+use Rattle.claim_profile.specs.Readable.{readable_header}
 use Rattle.claim_profile.specs.Ruling.{AnswerParts, answer_of, advice_of}
+use Rattle.carried_fields.specs.Carrying.{carrying_text, kept_text}
 use Rattle.plan_rules.specs.Pricing.{paid}
 use Rattle.plan_rules.specs.Terms.{changed}
-use Rattle.claim_model.specs.Words.{RequestHeader, Order, Code, Answer, Envelope, EnvelopeFault}
+use Rattle.claim_model.specs.Words.{RequestHeader, AcceptedStatus, Order, Code, Ruling, Answer, Envelope, EnvelopeFault}
 use Rattle.claim_model.specs.Context.{Context}
 
 abbrev pub header_in : Option (TransmissionParts RequestHeader) → Option RequestHeader
@@ -38,6 +39,11 @@ abbrev pub answer_in : Result AnswerParts AnswerFault → Option Answer
 answer_in (Ok a) = Some (record { header = a.header; rulings = a.rulings })
 answer_in (Err fault) = None
 
+-- what the answer to a request of this header keeps of an advice
+abbrev pub kept_under : Option RequestHeader → List Ruling → List ℕ → List ℕ
+kept_under None rulings said = []
+kept_under (Some header) rulings said = kept_text header AcceptedStatus rulings said
+
 -- the reading of bytes with these routes
 abbrev pub bytes_with : RouteMaps → Context
 bytes_with routes = record {
@@ -46,7 +52,8 @@ bytes_with routes = record {
   route = λ number key. payer_under routes number key;
   price = paid;
   reprice = changed;
-  answer = answer_text;
+  answer = carrying_text;
+  carried = λ request rulings said. kept_under (readable_header request) rulings said;
   read_answer = λ text. answer_in (answer_of text);
   read_advice = λ text. answer_in (advice_of text);
   envelope = λ e. envelope_text e.kind e.id e.payload;

@@ -13,8 +13,10 @@ pub record Context : Type 0 where
   pub price : Plan → Claim → Option Amounts
   -- the plan with a new price for a product, or without the product
   pub reprice : Plan → Change → Result Plan PlanFault
-  -- the text of an answer to a request with this header
-  pub answer : RequestHeader → Status → List Ruling → List ℕ
+  -- the text of an answer to a request with this header, with what it carries beside the rulings
+  pub answer : RequestHeader → Status → List Ruling → List ℕ → List ℕ
+  -- what an answer to a request with these rulings carries of the text of an advice
+  pub carried : List ℕ → List Ruling → List ℕ → List ℕ
   -- the answer that a text spells; none where the text is no answer
   pub read_answer : List ℕ → Option Answer
   -- the answer that a text of a payer's own system spells, whose authorization numbers are not those of a book

@@ -41,7 +41,7 @@ row_at w payer id = option_and_then (λ (b : Book). row_of id b.rows) (book_at w
 
 -- the answer of a row
 abbrev pub row_answer : Context → Row → Option (List ℕ)
-row_answer ctx row = option_map (λ h. answer_text ctx h row.rulings) (readable ctx row.request)
+row_answer ctx row = option_map (λ h. answer_text ctx h row) (readable ctx row.request)
 
 abbrev pub decided_by : Context → World → TxnId → RequestHeader → Option ℕ → Option (List ℕ)
 decided_by ctx w id h None = Some (rejection ctx h)

@@ -7,7 +7,7 @@ use Rattle.claim_profile.specs.Ruling.{IsCode}
 use Rattle.claim_model.specs.Words.{Auth, Amounts, Claim, Reversal, Order, Bills, Reverses, Code, Ruling, Paid, Duplicate, Reversed, Rejected, RequestHeader, Status, AcceptedStatus, RejectedStatus, Answer, Envelope, Plan, RouteKey}
 use Rattle.claim_model.specs.Context.{Context}
 use Rattle.claim_model.specs.Numbered.{numbered}
-use Rattle.claim_model.specs.Judgement.{Verdict, Pays, Rejects, verdict_in}
+use Rattle.claim_model.specs.Judgement.{Verdict, Pays, Rejects, verdict_in, Consent, Allows, Denies, consent_in}
 use Rattle.claim_model.specs.Readable.{readable, longest, billing_code, reversal_code}
 
 -- an envelope that can be written: neither number is zero, both fit their fields, and the payload is not too long
@@ -71,13 +71,19 @@ abbrev pub IsVerdict : Verdict → Type 0
 IsVerdict (Pays amounts) = IsAmounts amounts
 IsVerdict (Rejects codes) = IsRejects codes
 
+-- a consent that can be written
+abbrev pub IsConsent : Consent → Type 0
+IsConsent Allows = ⊤
+IsConsent (Denies codes) = IsRejects codes
+
 -- an advice whose verdicts can be written
 abbrev pub AdvisesWell : List Ruling → Type 0
 AdvisesWell advice = (place claimed : ℕ) (v : Verdict) → verdict_in claimed (numbered advice place) ≡ Some v → IsVerdict v
 
--- the same verdicts, at each place
+-- the same verdicts and consents, at each place
 abbrev pub SaysSame : List Ruling → List Ruling → Type 0
-SaysSame a b = (place claimed : ℕ) → verdict_in claimed (numbered a place) ≡ verdict_in claimed (numbered b place)
+SaysSame a b =
+    (place n : ℕ) → (verdict_in n (numbered a place) ≡ verdict_in n (numbered b place)) × (consent_in n (numbered a place) ≡ consent_in n (numbered b place))
 
 -- a ruling that can be written
 abbrev pub IsRuling : Ruling → Type 0
@@ -106,9 +112,18 @@ pub record Spells (ctx : Context) (h : RequestHeader) (rulings : List Ruling) (b
   pub code : answer.header.code ≡ h.code
   pub count : answer.header.count ≡ h.count
 
--- an answer to a readable request, with one ruling for each group, is short and reads back
+-- an answer to a readable request, with one ruling for each group, is short and reads back, whatever it carries
 abbrev pub AnswersReadBack : Context → Type 0
-AnswersReadBack ctx = (text : List ℕ) (h : RequestHeader) (status : Status) (rulings : List Ruling) → readable ctx text ≡ Some h → length rulings ≡ h.count → AllByRecursion IsRuling rulings → GoesWith status rulings → Spells ctx h rulings (ctx.answer h status rulings)
+AnswersReadBack ctx = (text : List ℕ) (h : RequestHeader) (status : Status) (rulings : List Ruling) (carried : List ℕ) → readable ctx text ≡ Some h → length rulings ≡ h.count → AllByRecursion IsRuling rulings → GoesWith status rulings → Spells ctx h rulings (ctx.answer h status rulings carried)
+
+-- what is kept of an advice is carried as the advice is, and is kept again of the answer that carries it
+pub record CarriesWell (ctx : Context) (text : List ℕ) (h : RequestHeader) (rulings : List Ruling) (said : List ℕ) : Type 0 where
+  pub same : ctx.answer h AcceptedStatus rulings (ctx.carried text rulings said) ≡ ctx.answer h AcceptedStatus rulings said
+  pub again : ctx.carried text rulings (ctx.answer h AcceptedStatus rulings (ctx.carried text rulings said)) ≡ ctx.carried text rulings said
+
+-- of an answer to a readable request, with one ruling for each group
+abbrev pub CarriedBack : Context → Type 0
+CarriedBack ctx = (text : List ℕ) (h : RequestHeader) (rulings : List Ruling) (said : List ℕ) → readable ctx text ≡ Some h → length rulings ≡ h.count → AllByRecursion IsRuling rulings → CarriesWell ctx text h rulings said
 
 pub record Laws (ctx : Context) : Type 0 where
   -- a written envelope reads back
@@ -120,6 +135,8 @@ pub record Laws (ctx : Context) : Type 0 where
   -- a price for such a claim gives amounts that fit
   pub prices : (plan : Plan) (h : RequestHeader) (c : Claim) (amounts : Amounts) → IsClaimOf h c → ctx.price plan c ≡ Some amounts → IsAmounts amounts
   pub answers : AnswersReadBack ctx
+  -- and what it carries is kept of it again
+  pub carried_back : CarriedBack ctx
   -- what an answer that is read says of a claim can be written again
   pub sayings : (text : List ℕ) (answer : Answer) → ctx.read_answer text ≡ Some answer → AdvisesWell answer.rulings
   -- and what an advice says

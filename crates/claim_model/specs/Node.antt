@@ -1,6 +1,6 @@
 -- One call on one node, up or at rest.
 use Rattle.std.specs.Prelude.{ℕ, cond, List, [], ◌∷◌, map, Result, Ok, Err}
-use Rattle.claim_model.specs.Words.{TxnId, Envelope, EnvelopeFault, Plan, PlanFault, Ruling, Change}
+use Rattle.claim_model.specs.Words.{TxnId, Envelope, EnvelopeFault, Plan, PlanFault, Advice, Change}
 use Rattle.claim_model.specs.Context.{Context}
 use Rattle.claim_model.specs.Readable.{is_request, answer_envelope, rulings_in}
 use Rattle.claim_model.specs.Refusal.{Refusal, NoSuchNode, Down, AlreadyUp, NoEnvelope, NotPriced, Unreadable, NotAsked}
@@ -127,13 +127,13 @@ abbrev pub after_answer : Context → Node → TxnId → Result Answered Refusal
 after_answer ctx from id (Err fault) = Refused fault
 after_answer ctx from id (Ok a) = Done (Up a.book) (record { to = from; bytes = ctx.envelope (answer_envelope id a.bytes) } ∷ [])
 
-abbrev pub payer_takes : Context → Book → List Ruling → Node → Result Envelope EnvelopeFault → Outcome (Power Book Book)
+abbrev pub payer_takes : Context → Book → Advice → Node → Result Envelope EnvelopeFault → Outcome (Power Book Book)
 payer_takes ctx b advice from (Err fault) = Refused (NoEnvelope fault)
 payer_takes ctx b advice from (Ok e) = cond (is_request e) (after_answer ctx from e.id (answered ctx b advice e.id e.payload)) (Refused Unreadable)
 
--- the rulings of an advice; none where its bytes are no answer
-abbrev pub advice_in : Context → List ℕ → List Ruling
-advice_in ctx advice = rulings_in (ctx.read_advice advice)
+-- an advice of these bytes: it has no rulings where they are no answer
+abbrev pub advice_in : Context → List ℕ → Advice
+advice_in ctx advice = record { rulings = rulings_in (ctx.read_advice advice); text = advice }
 
 abbrev pub after_reprice : Book → Result Plan PlanFault → Outcome (Power Book Book)
 after_reprice b (Err fault) = Refused (NotPriced fault)

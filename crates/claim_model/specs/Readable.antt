@@ -5,6 +5,7 @@ use Rattle.claim_profile.specs.declared.transaction.TransactionCode.TheVariants.
 use Rattle.claim_profile.specs.Transaction.{code_bytes, transaction_code}
 use Rattle.claim_model.specs.Words.{TxnId, RequestHeader, Answer, Ruling, Rejected, BadBin, AcceptedStatus, RejectedStatus, Envelope, Request, Response, RouteKey}
 use Rattle.claim_model.specs.Context.{Context}
+use Rattle.claim_model.specs.Rows.{Row}
 
 -- "D0"
 abbrev pub version_d0 : List ℕ
@@ -48,13 +49,13 @@ abbrev pub is_payer : ℕ → Option ℕ → Bool
 is_payer payer None = false
 is_payer payer (Some p) = p == payer
 
--- a payer's answer: header status A and the rulings
-abbrev pub answer_text : Context → RequestHeader → List Ruling → List ℕ
-answer_text ctx h rulings = ctx.answer h AcceptedStatus rulings
+-- a payer's answer: header status A, the rulings of a row, and what it carries
+abbrev pub answer_text : Context → RequestHeader → Row → List ℕ
+answer_text ctx h row = ctx.answer h AcceptedStatus row.rulings row.carried
 
 -- the fixed rejection of a request that has no route: header status R, and code 01 for each transaction
 abbrev pub rejection : Context → RequestHeader → List ℕ
-rejection ctx h = ctx.answer h RejectedStatus (replicate h.count (Rejected (BadBin ∷ [])))
+rejection ctx h = ctx.answer h RejectedStatus (replicate h.count (Rejected (BadBin ∷ []))) []
 
 abbrev pub fits : Option RequestHeader → Option Answer → Bool
 fits (Some h) (Some a) = bytes_eq a.header.code h.code && (a.header.count == h.count)

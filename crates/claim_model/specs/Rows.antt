@@ -4,18 +4,22 @@ use Rattle.claim_model.specs.Words.{TxnId, Ruling, Plan}
 use Rattle.claim_model.specs.Context.{Context}
 use Rattle.claim_model.specs.Ruled.{Ruled, ruled_groups}
 
--- a decided request: its id, its text, and one ruling for each of its groups
+-- a decided request: its id, its text, one ruling for each of its groups, and what its answer carries beside these
 pub record Row : Type 0 where
   pub id : TxnId
   pub request : List ℕ
   pub rulings : List Ruling
+  pub carried : List ℕ
 
--- the serial of the first payment, how many rows the book may have, and whether the payer asks for the verdict on each claim that is to be
--- priced, in place of pricing it by the plan
+-- the serial of the first payment, how many rows the book may have, whether the payer asks for the verdict on each claim that is to be
+-- priced, in place of pricing it by the plan, whether one that does asks about each reversal of a payment too, and whether answers carry what
+-- an advice says beside its rulings
 pub record BookSettings : Type 0 where
   pub serial : ℕ
   pub cap : ℕ
   pub asks : Bool
+  pub reversals : Bool
+  pub carries : Bool
 
 -- a book, oldest row first
 pub record Book : Type 0 where

@@ -28,6 +28,11 @@ pub record Answer : Type 0 where
   pub header : ResponseHeader
   pub rulings : List Ruling
 
+-- what a payer's own system says to a request: its rulings, and the bytes in which they stand
+pub record Advice : Type 0 where
+  pub rulings : List Ruling
+  pub text : List ℕ
+
 -- a numbered packet's content
 pub record Envelope : Type 0 where
   pub kind : Kind

@@ -13,7 +13,8 @@ ghost use Rattle.envelope.specs.Opening.{envelope_of};
 ghost use Rattle.claim_model.specs.Bytes.{envelope_in, bytes_with};
 
 use bin_routes::{number_laws, range_laws};
-use claim_profile::{advice_laws, answer_laws, readable_laws};
+use carried_fields::carrying_laws;
+use claim_profile::{advice_laws, readable_laws};
 use envelope::envelope_reads_back;
 use overpunch::{amount_in_range, number_in_range};
 
@@ -24,7 +25,7 @@ pub fn bytes_keep_laws()
     envelope_reads_back();
     number_in_range();
     amount_in_range();
-    answer_laws();
+    carrying_laws();
     advice_laws();
     readable_laws();
     number_laws();

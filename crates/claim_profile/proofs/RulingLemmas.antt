@@ -20,7 +20,7 @@ use Rattle.claim_profile.specs.Tally.{Absent, tallied, the_one}
 use Rattle.claim_profile.specs.Order.{number_up_to, amount_in_cents}
 use Rattle.claim_profile.specs.OrderSeen.{required_seen}
 use Rattle.claim_profile.specs.AnswerTally.{AnswerTally, no_answer_seen, answer_counted}
-use Rattle.claim_profile.specs.Ruling.{◌>>=◌, or_fault, status_of, checked_status, status_in, authorization_in, claim_in, money_of, fee_in, money_in, code_of, codes_of, counted_codes, rejection_in, ruling_under, ruling_in}
+use Rattle.claim_profile.specs.Ruling.{◌>>=◌, or_fault, status_by, checked_status, status_in, authorization_in, claim_in, money_of, fee_in, money_in, code_of, codes_of, counted_codes, rejection_in, ruling_under, ruling_in}
 use Rattle.claim_profile.specs.RulingSeen.{status_seen, authorization_seen, claim_number_seen, fee_said, money_seen, payment_seen, code_more, codes_counted, some_codes, ruled_under, ruled_seen, rejection_with, or_rejection}
 use Rattle.claim_profile.proofs.OrderLemmas.{required_counted, optional_counted, qualified_counted, tallied-many}
 use Rattle.claim_profile.proofs.AnswerCounting.{all_answer_counted, is_all_answer_counted}
@@ -33,8 +33,8 @@ the_one_counted (v ∷ w ∷ vs) = ap the_one (tallied-many vs)
 
 -- ---- the parts
 
-status_is : (h : Response) (group : List SegmentParts) → status_seen h (all_answer_counted group).status ≡ status_in h group
-status_is h group = ap (λ o. or_fault NoStatus o >>= λ text. checked_status h (status_of text)) (the_one_counted (values_in (codes "21") (codes "AN") group))
+status_is : (by : Speaker) (h : Response) (group : List SegmentParts) → status_seen by h (all_answer_counted group).status ≡ status_in by h group
+status_is by h group = ap (λ o. or_fault NoStatus o >>= λ text. checked_status h (status_by by text)) (the_one_counted (values_in (codes "21") (codes "AN") group))
 
 authorization_is : (by : Speaker) (group : List SegmentParts) → authorization_seen by (all_answer_counted group).authorization ≡ authorization_in by group
 authorization_is speaker.System group = refl
@@ -191,5 +191,5 @@ pub ruling_is : (by : Speaker) (h : Response) (group : List SegmentParts) (t : A
 unfolding ruling_in
 ruling_is by h group t e =
     ap (λ u. or_rejection (ruled_seen by h u) (rejection_with (some_codes (codes_counted (Some []) (values_in (codes "21") (codes "FB") group))) (required_seen (number_up_to 2) u.reject_count))) (e ∙ is_all_answer_counted group)
-    ∙ ap (λ s. or_rejection (s >>= ruled_under by (all_answer_counted group)) (rejection_with (some_codes (codes_counted (Some []) (values_in (codes "21") (codes "FB") group))) (required_seen (number_up_to 2) (all_answer_counted group).reject_count))) (status_is h group)
-    ∙ by_status by group (status_in h group) (rejection_with (some_codes (codes_counted (Some []) (values_in (codes "21") (codes "FB") group))) (required_seen (number_up_to 2) (all_answer_counted group).reject_count)) (rejection_is group)
+    ∙ ap (λ s. or_rejection (s >>= ruled_under by (all_answer_counted group)) (rejection_with (some_codes (codes_counted (Some []) (values_in (codes "21") (codes "FB") group))) (required_seen (number_up_to 2) (all_answer_counted group).reject_count))) (status_is by h group)
+    ∙ by_status by group (status_in by h group) (rejection_with (some_codes (codes_counted (Some []) (values_in (codes "21") (codes "FB") group))) (required_seen (number_up_to 2) (all_answer_counted group).reject_count)) (rejection_is group)

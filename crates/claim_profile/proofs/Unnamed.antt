@@ -1,5 +1,6 @@
 -- What is read of a book's answer is read of it as an advice too, but for its authorization numbers; and what fees of advices are.
-use Rattle.std.proofs.Common.{◌≡◌, ℕ, List, [], ◌∷◌, map, Option, Some, None, Result, Ok, Err, codes, refl, ap, subst, ◌∙◌, ◌⊎◌, inl, inr}
+use Rattle.std.proofs.Common.{◌≡◌, ℕ, cond, List, [], ◌∷◌, map, Option, Some, None, Result, Ok, Err, codes, refl, ap, subst, ◌∙◌, ◌⊎◌, inl, inr}
+use Rattle.std.specs.Str.{bytes_eq}
 use Rattle.d0_header.specs.Response.{Response}
 use Rattle.d0_segments.specs.Parts.{SegmentParts, TransmissionParts}
 use Rattle.d0_segments.specs.Framing.{response_kind, transmission_of}
@@ -11,12 +12,12 @@ use Rattle.claim_profile.specs.declared.answer_reading.Status.TheVariants as sta
 use Rattle.claim_profile.specs.declared.answer_reading.Speaker.{Speaker}
 use Rattle.claim_profile.specs.declared.answer_reading.Speaker.TheVariants.{Book, System}
 use Rattle.claim_profile.specs.declared.answer_reading.AnswerFault.{AnswerFault}
-use Rattle.claim_profile.specs.declared.answer_reading.AnswerFault.TheVariants.{BadAmount}
+use Rattle.claim_profile.specs.declared.answer_reading.AnswerFault.TheVariants.{BadAmount, NoStatus}
 use Rattle.claim_profile.specs.Authorization.{Authorization}
 use Rattle.claim_profile.specs.Money.{Money}
 use Rattle.claim_profile.specs.Fields.{values_in, required, optional}
 use Rattle.claim_profile.specs.Order.{amount_in_cents}
-use Rattle.claim_profile.specs.Ruling.{AnswerParts, ◌>>=◌, or_fault, unread, status_in, authorization_in, claim_in, money_of, amount_at, fee_in, money_in, rejects_in, payment_in, reversal_in, rejection_in, ruling_under, ruling_in, rulings_in, answer_with, said_by}
+use Rattle.claim_profile.specs.Ruling.{AnswerParts, ◌>>=◌, or_fault, unread, status_of, again_by, or_status, status_by, checked_status, status_in, authorization_in, claim_in, money_of, amount_at, fee_in, money_in, rejects_in, payment_in, reversal_in, rejection_in, ruling_under, ruling_in, rulings_in, answer_with, said_by}
 use Rattle.claim_profile.specs.Unnamed.{unnamed, unnamed_parts}
 
 bind_ok : {A B : Type 0} (r : Result A AnswerFault) (f : A → Result B AnswerFault) (y : B) → (r >>= f) ≡ Ok y → (x : A) × (r ≡ Ok x) × (f x ≡ Ok y)
@@ -77,11 +78,26 @@ under_same group status.Rejected r e =
     let c = bind_ok (rejects_in group) _ r e in
     subst (λ (x : Ruling). rejection_in group ≡ Ok (unnamed x)) (same_ok _ r c.2) (ap (λ (x : Result (List Code) AnswerFault). x >>= λ rejects. Ok (Rejected rejects)) c.1)
 
+known_same : (h : Response) (o again : Option Status) (s : Status) → checked_status h (or_status o None) ≡ Ok s → checked_status h (or_status o again) ≡ Ok s
+known_same h None again s e = absurd cc
+known_same h (Some status) again s e = e
+
+-- a status of a book is that of a system too
+status_same : (h : Response) (group : List SegmentParts) (s : Status) → status_in Book h group ≡ Ok s → status_in System h group ≡ Ok s
+status_same h group s e =
+    let t = bind_ok (or_fault NoStatus (required (λ value. Some value) (values_in (codes "21") (codes "AN") group))) (λ text. checked_status h (status_by Book text)) s e in
+    ap (λ (x : Result (List ℕ) AnswerFault). x >>= λ text. checked_status h (status_by System text)) t.1 ∙ known_same h (status_of t.0) (again_by System t.0) s t.2
+
+-- what is said again is said of a reversal, and by a text `S`
+pub said_again : (by : Speaker) (text : List ℕ) (s : Status) → again_by by text ≡ Some s → cond (bytes_eq text (codes "S")) (Some status.Reversed) None ≡ Some s
+said_again Book text s e = absurd cc
+said_again System text s e = e
+
 ruling_same : (h : Response) (group : List SegmentParts) (r : Ruling) → ruling_in Book h group ≡ Ok r → ruling_in System h group ≡ Ok (unnamed r)
 unfolding ruling_in
 ruling_same h group r e =
-    let s = bind_ok (status_in h group) (ruling_under Book group) r e in
-    ap (λ (x : Result Status AnswerFault). x >>= ruling_under System group) s.1 ∙ under_same group s.0 r s.2
+    let s = bind_ok (status_in Book h group) (ruling_under Book group) r e in
+    ap (λ (x : Result Status AnswerFault). x >>= ruling_under System group) (status_same h group s.0 s.1) ∙ under_same group s.0 r s.2
 
 rulings_same : (h : Response) (groups : List (List SegmentParts)) (rs : List Ruling) → rulings_in Book h groups ≡ Ok rs → rulings_in System h groups ≡ Ok (map unnamed rs)
 unfolding rulings_in

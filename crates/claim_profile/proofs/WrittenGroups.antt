@@ -150,20 +150,20 @@ rejects_read numbers rejects are =
 
 -- ---- rulings
 
-status_of_rejection : (h : Request) (s : HeaderStatus) (rejects : List Code) → status_in (answer_to h (status_byte_of s)) (reject_segment rejects ∷ []) ≡ Ok status.Rejected
+status_of_rejection : (h : Request) (s : HeaderStatus) (rejects : List Code) → status_in speaker.Book (answer_to h (status_byte_of s)) (reject_segment rejects ∷ []) ≡ Ok status.Rejected
 unfolding fields_of values reject_segment
 status_of_rejection h header.Accepted rejects = rw (no_statuses rejects) refl
 status_of_rejection h header.Rejected rejects = rw (no_statuses rejects) refl
 
-status_of_payment : (h : Request) (auth : Authorization) (prescription : ℕ) (m : Money) → status_in (answer_to h 65) (payment_group (codes "P") auth prescription m) ≡ Ok status.Paid
+status_of_payment : (h : Request) (auth : Authorization) (prescription : ℕ) (m : Money) → status_in speaker.Book (answer_to h 65) (payment_group (codes "P") auth prescription m) ≡ Ok status.Paid
 unfolding fields_of values status_segment claim_segment pricing_segment
 status_of_payment h auth prescription m = refl
 
-status_of_duplicate : (h : Request) (auth : Authorization) (prescription : ℕ) (m : Money) → status_in (answer_to h 65) (payment_group (codes "D") auth prescription m) ≡ Ok status.Duplicate
+status_of_duplicate : (h : Request) (auth : Authorization) (prescription : ℕ) (m : Money) → status_in speaker.Book (answer_to h 65) (payment_group (codes "D") auth prescription m) ≡ Ok status.Duplicate
 unfolding fields_of values status_segment claim_segment pricing_segment
 status_of_duplicate h auth prescription m = refl
 
-status_of_reversal : (h : Request) (auth : Authorization) (prescription : ℕ) → status_in (answer_to h 65) (reversal_group auth prescription) ≡ Ok status.Reversed
+status_of_reversal : (h : Request) (auth : Authorization) (prescription : ℕ) → status_in speaker.Book (answer_to h 65) (reversal_group auth prescription) ≡ Ok status.Reversed
 unfolding fields_of values status_segment claim_segment
 status_of_reversal h auth prescription = refl
 

@@ -42,6 +42,19 @@ status_of text =
     else if bytes_eq text (codes "R") then Some status.Rejected
     else None
 
+-- the status of what is said again: `S`, where a payer's own system is asked once more about a reversal
+abbrev pub again_by : Speaker → List ℕ → Option Status
+again_by speaker.Book text = None
+again_by speaker.System text = if bytes_eq text (codes "S") then Some status.Reversed else None
+
+abbrev pub or_status : Option Status → Option Status → Option Status
+or_status (Some status) other = Some status
+or_status None other = other
+
+-- the status that a text of this speaker spells
+abbrev pub status_by : Speaker → List ℕ → Option Status
+status_by by text = or_status (status_of text) (again_by by text)
+
 -- whether a status is that of a rejection
 abbrev pub is_rejection : Status → Bool
 is_rejection status.Paid = false
@@ -63,10 +76,10 @@ checked_status h None = Err BadStatus
 checked_status h (Some status) = if stands_beside h status then Ok status else Err BadStatus
 
 -- the status of a transaction
-abbrev pub status_in : Response → List SegmentParts → Result Status AnswerFault
-status_in h group = do
+abbrev pub status_in : Speaker → Response → List SegmentParts → Result Status AnswerFault
+status_in by h group = do
   text ← or_fault NoStatus (required (λ value. Some value) (values_in (codes "21") (codes "AN") group))
-  checked_status h (status_of text)
+  checked_status h (status_by by text)
 
 -- ---- the parts of a ruling
 
@@ -173,7 +186,7 @@ ruling_under by group status.Rejected = rejection_in group
 -- the ruling that the segments of one transaction spell under a header
 unfoldable pub ruling_in : Speaker → Response → List SegmentParts → Result Ruling AnswerFault
 ruling_in by h group = do
-  status ← status_in h group
+  status ← status_in by h group
   ruling_under by group status
 
 -- the rulings of groups, or the fault of the first that has one

@@ -19,12 +19,12 @@ use Rattle.claim_profile.specs.Tally.{Tally, the_one}
 use Rattle.claim_profile.specs.Order.{number_up_to, amount_in_cents}
 use Rattle.claim_profile.specs.OrderSeen.{required_seen, optional_seen, qualified_seen}
 use Rattle.claim_profile.specs.AnswerTally.{AnswerTally}
-use Rattle.claim_profile.specs.Ruling.{◌>>=◌, or_fault, status_of, checked_status, unread, money_of, code_of}
+use Rattle.claim_profile.specs.Ruling.{◌>>=◌, or_fault, status_by, checked_status, unread, money_of, code_of}
 
-abbrev pub status_seen : Response → Tally → Result Status AnswerFault
-status_seen h t = do
+abbrev pub status_seen : Speaker → Response → Tally → Result Status AnswerFault
+status_seen by h t = do
   text ← or_fault NoStatus (the_one t)
-  checked_status h (status_of text)
+  checked_status h (status_by by text)
 
 abbrev pub authorization_seen : Speaker → Tally → Result Authorization AnswerFault
 authorization_seen speaker.Book t = or_fault BadAuthorization (required_seen authorization_of t)
@@ -91,7 +91,7 @@ ruled_under by t status.Rejected = Ok None
 
 abbrev pub ruled_seen : Speaker → Response → AnswerTally → Result (Option Ruling) AnswerFault
 ruled_seen by h t = do
-  status ← status_seen h t.status
+  status ← status_seen by h t.status
   ruled_under by t status
 
 -- a rejection with as many codes as the count says

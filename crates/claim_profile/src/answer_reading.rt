@@ -6,7 +6,7 @@ ghost use Rattle.d0_segments.specs.Cursors.{FindsGroup};
 ghost use Rattle.claim_profile.specs.Tally.{seen};
 ghost use Rattle.claim_profile.specs.Money.{largest};
 ghost use Rattle.claim_profile.specs.AnswerTally.{answer_seen};
-ghost use Rattle.claim_profile.specs.Ruling.{ruling_in, rulings_in, said_by, answer_of, advice_of, FailsAs, status_of, stands_beside, stands_under};
+ghost use Rattle.claim_profile.specs.Ruling.{ruling_in, rulings_in, said_by, answer_of, advice_of, FailsAs, status_of, again_by, status_by, stands_beside, stands_under};
 ghost use Rattle.claim_profile.specs.RulingSeen.{ruled_seen, status_seen, payment_seen, authorization_seen, claim_number_seen, fee_said, money_seen, all_money_seen, rejection_in, or_rejection};
 ghost use Rattle.claim_profile.specs.declared.answer_reading.AnswerFault.TheVariants.{OutOfMemory};
 ghost use Rattle.claim_profile.specs.declared.answer_reading.Speaker.TheVariants.{Book};
@@ -37,7 +37,7 @@ pub enum AnswerFault {
     /// A group has no transaction response status (112-AN), or several.
     #[error("a transaction has not exactly one response status")]
     NoStatus,
-    /// The status is none of `P`, `D`, `A` and `R`; or the version is not `D0`; or the header
+    /// The status is none of `P`, `D`, `A` and `R`, nor `S` of a payer's own system; or the version is not `D0`; or the header
     /// response status (501-F1) is neither `A` nor `R`, or is `R` beside a status other than `R`.
     #[error("a response status is unknown or contradicts the header")]
     BadStatus,
@@ -123,7 +123,8 @@ pub fn read_answer(alloc: Global, bytes: &[u8]) -> Result<Answer, AnswerFault>
 }
 
 /// Reads what a payer's own system answers, as [`read_answer`] does, but for its authorization numbers (503-F3), which may be any
-/// or none and are not looked at, and for fees that are paid (507-F7): one that is not there is 0.
+/// or none and are not looked at, for fees that are paid (507-F7): one that is not there is 0, and for the status `S` of a reversal
+/// that it is asked about again, which is read as `A`.
 pub fn read_advice(alloc: Global, bytes: &[u8]) -> Result<Answer, AnswerFault>
     ensures read { IfOk result (λ advice. advice_of bytes.now ≡ Ok advice) }
     ensures fault { IfErr result (λ fault. FailsAs fault (advice_of bytes.now)) }
@@ -144,7 +145,7 @@ pub fn read_answer_into(list: Vec<Ruling>, bytes: &[u8]) -> Result<Answer, Answe
 enum Speaker {
     /// A payer's book: its authorization numbers are read.
     Book,
-    /// A payer's own system: its authorization numbers are not looked at.
+    /// A payer's own system: its authorization numbers are not looked at, a fee may be left out, and `S` is a status.
     System,
 }
 
@@ -274,7 +275,7 @@ fn ruled(
 ) -> Result<Option<Ruling>, AnswerFault>
     ensures { result ≡ ruled_seen by header.now (answer_seen values.now) }
 {
-    match status_beside(header, values.status)? {
+    match status_beside(by, header, values.status)? {
         Status::Paid => {
             let (auth, prescription, amounts) = payment(by, values)?;
             Ok(Some(Ruling::Paid {
@@ -301,15 +302,42 @@ fn ruled(
 }
 
 /// The status of the transaction, where it may stand beside the header.
-fn status_beside(header: &ResponseHeader, found: Found<'_>) -> Result<Status, AnswerFault>
-    ensures { result ≡ status_seen header.now (seen found.entry) }
+fn status_beside(
+    by: Speaker,
+    header: &ResponseHeader,
+    found: Found<'_>,
+) -> Result<Status, AnswerFault>
+    ensures { result ≡ status_seen by header.now (seen found.entry) }
 {
     let Some(text) = found.one() else {
         return Err(AnswerFault::NoStatus);
     };
-    match status_of(text) {
+    match status_by(by, text) {
         Some(status) if stands_beside(header, status) => Ok(status),
         _ => Err(AnswerFault::BadStatus),
+    }
+}
+
+/// The status that a text of this speaker spells.
+fn status_by(by: Speaker, text: &[u8]) -> Option<Status>
+    ensures { result ≡ status_by by text.now }
+{
+    match status_of(text) {
+        Some(status) => Some(status),
+        None => again_by(by, text),
+    }
+}
+
+/// The status of what is said again: of a payer's own system `S`, of a reversal that it has approved before.
+fn again_by(by: Speaker, text: &[u8]) -> Option<Status>
+    ensures { result ≡ again_by by text.now }
+{
+    match by {
+        Speaker::Book => None,
+        Speaker::System => match text {
+            b"S" => Some(Status::Reversed),
+            _ => None,
+        },
     }
 }
 

@@ -2,7 +2,7 @@
 use Rattle.std.proofs.Common.{◌≡◌, ℕ, ◌+◌, ◌<◌, ◌≤◌, List, [], ◌∷◌, ◌++◌, length, Option, Some, None, Ok, refl, sym, ap, ◌∙◌, subst, inl, inr, arith}
 use Rattle.std.specs.Prelude.{option_map, option_and_then}
 use Rattle.std.proofs.lemmas.Bool.{cases_eq, cond-true}
-use Rattle.claim_model.specs.Words.{TxnId, RequestHeader, Ruling}
+use Rattle.claim_model.specs.Words.{Advice, TxnId, RequestHeader}
 use Rattle.claim_model.specs.Context.{Context}
 use Rattle.claim_model.specs.Readable.{payer_for, answer_text, same_id, request_envelope, answer_envelope}
 use Rattle.claim_model.specs.Numbered.{numbered}
@@ -94,16 +94,16 @@ pub record RowThere (ctx : Context) (b : Book) (id : TxnId) (request : List ℕ)
   pub row : Row
   pub found : row_of id a.book.rows ≡ Some row
   pub request_is : row.request ≡ request
-  pub text : a.bytes ≡ answer_text ctx h row.rulings
+  pub text : a.bytes ≡ answer_text ctx h row
 
-row_there : (ctx : Context) (b : Book) (advice : List Ruling) (id : TxnId) (request : List ℕ) (h : RequestHeader) (a : Answered) → Rows ctx b advice id request h a → RowThere ctx b id request h a
+row_there : (ctx : Context) (b : Book) (advice : Advice) (id : TxnId) (request : List ℕ) (h : RequestHeader) (a : Answered) → Rows ctx b advice id request h a → RowThere ctx b id request h a
 row_there ctx b advice id request h a (Known row found same book text) = record { row = row; found = subst (λ (q : Book). row_of id q.rows ≡ Some row) (sym book) found; request_is = same; text = text }
 row_there ctx b advice id request h a (New fresh fits advised book text) =
     let row : Row = new_row ctx b advice id request in
     let found : row_of id (b.rows ++ row ∷ []) ≡ Some row = find_beyond _ b.rows (row ∷ []) fresh ∙ cond-true (same_id row.id row.id) (Some row) None (id_self row.id) in
     record { row = row; found = subst (λ (q : Book). row_of id q.rows ≡ Some row) (sym book) found; request_is = refl; text = text }
 
-rows_left : (ctx : Context) (b : Book) (advice : List Ruling) (id : TxnId) (request : List ℕ) (p : ℕ) (h : RequestHeader) (a : Answered) → IsRouted ctx id request p → Rows ctx b advice id request h a → BookLeft ctx id request p (Some b) (Some a.book)
+rows_left : (ctx : Context) (b : Book) (advice : Advice) (id : TxnId) (request : List ℕ) (p : ℕ) (h : RequestHeader) (a : Answered) → IsRouted ctx id request p → Rows ctx b advice id request h a → BookLeft ctx id request p (Some b) (Some a.book)
 rows_left ctx b advice id request p h a routed (Known row found same book text) = AsItWas (ap (λ (q : Book). Some q) book)
 rows_left ctx b advice id request p h a routed (New fresh fits advised book text) = OneRowMore b advice refl fresh routed (ap (λ (q : Book). Some q) book)
 
@@ -127,8 +127,8 @@ payer_replies ctx given may w old id request m p k b handed a r before fresh ok 
     let row = row_there ctx b (handed_with ctx b handed) id request ruled.header a ruled.rows in
     let there : row_at v p id ≡ Some row.row =
     ap (λ (o : Option (Power Book Book)). option_and_then (λ (q : Book). row_of id q.rows) (option_map book_in o)) (numbered_put w.payers p (Up b) (Up a.book) up) ∙ row.found in
-    let d : decided ctx v id ≡ Some (answer_text ctx known.header row.row.rulings) = decided_routed ctx v id request known.header p row.row known.asks known.reads route there row.request_is in
-    let text : a.bytes ≡ answer_text ctx known.header row.row.rulings = row.text ∙ ap (λ (h : RequestHeader). answer_text ctx h row.row.rulings) same_header in
+    let d : decided ctx v id ≡ Some (answer_text ctx known.header row.row) = decided_routed ctx v id request known.header p row.row known.asks known.reads route there row.request_is in
+    let text : a.bytes ≡ answer_text ctx known.header row.row = row.text ∙ ap (λ (h : RequestHeader). answer_text ctx h row.row) same_header in
     record {
       world = v;
       path = handed_over ctx may w p k m id request b handed a (ok k fresh) (λ advice. advised k advice fresh) up stands (r.laws.envelopes (request_envelope id request) known.fits) answers;

@@ -2,7 +2,7 @@
 use Rattle.std.proofs.Common.{◌≡◌, ℕ, Bool, true, false, cond, not, ◌&&◌, ◌==◌, List, [], ◌∷◌, ◌++◌, map, drop, length, nat_lt, Option, Some, None, Ok, Err, refl, sym, ap, ◌∙◌, subst}
 use Rattle.std.specs.Prelude.{bytes_eq}
 use Rattle.std.proofs.lemmas.Bool.{cases_eq, cond-true, and_from, not_from_false}
-use Rattle.claim_model.specs.Words.{TxnId, RequestHeader, Envelope, Answer, Ruling}
+use Rattle.claim_model.specs.Words.{Advice, TxnId, RequestHeader, Envelope, Answer}
 use Rattle.claim_model.specs.Context.{Context}
 use Rattle.claim_model.specs.Readable.{fits, settles, same_id, answer_envelope, is_request}
 use Rattle.claim_model.specs.declared.refusal.Refusal.{Refusal}
@@ -85,7 +85,7 @@ answer_at_switch ctx w m k from bytes e t r up stands reads is goes =
     ∙ (cond_false (is_request e) (after_request e.id (requested ctx t e)) (after_response e.id (responded ctx t e)) is
     ∙ ap (after_response e.id) goes))
 
-takes_forward : (ctx : Context) (b : Book) (advice : List Ruling) (from : Node) (bytes : List ℕ) (e : Envelope) (a : Answered) → ctx.read_envelope bytes ≡ Ok e → is_request e ≡ true → answered ctx b advice e.id e.payload ≡ Ok a
+takes_forward : (ctx : Context) (b : Book) (advice : Advice) (from : Node) (bytes : List ℕ) (e : Envelope) (a : Answered) → ctx.read_envelope bytes ≡ Ok e → is_request e ≡ true → answered ctx b advice e.id e.payload ≡ Ok a
     → payer_takes ctx b advice from (ctx.read_envelope bytes) ≡ Done (Up a.book) (record { to = from; bytes = ctx.envelope (answer_envelope e.id a.bytes) } ∷ [])
 takes_forward ctx b advice from bytes e a reads is goes =
     ap (payer_takes ctx b advice from) reads

@@ -4,7 +4,7 @@ use Rattle.std.specs.Prelude.{filter, sum_by, is_none, option_map, option_and_th
 use Rattle.std.proofs.lemmas.List.{append-nil}
 use Rattle.std.proofs.lemmas.List.Sums.{sum_by-cons}
 use Rattle.std.proofs.lemmas.Bool.{cases_eq, and_parts, and_from}
-use Rattle.claim_model.specs.Words.{TxnId, RequestHeader, Order, Code, Ruling}
+use Rattle.claim_model.specs.Words.{Advice, TxnId, RequestHeader, Order, Code}
 use Rattle.claim_model.specs.Context.{Context}
 use Rattle.claim_model.specs.Laws.{Laws}
 use Rattle.claim_model.specs.Readable.{readable, payer_for, is_payer}
@@ -106,7 +106,7 @@ needs_before ctx w v id request payer asks l x h =
 
 -- ---- what one request takes
 
-takes_serials : (ctx : Context) (b : Book) (advice : List Ruling) (before : List Ruled) (id : TxnId) (place : ℕ) (orders : List (Result Order (List Code))) → next_serial b (before ++ ruled_from id place orders (rulings_from ctx b advice before id place orders)) ≤ next_serial b before + length orders
+takes_serials : (ctx : Context) (b : Book) (advice : Advice) (before : List Ruled) (id : TxnId) (place : ℕ) (orders : List (Result Order (List Code))) → next_serial b (before ++ ruled_from id place orders (rulings_from ctx b advice before id place orders)) ≤ next_serial b before + length orders
 takes_serials ctx b advice before id place [] = let e = ap (next_serial b) (append-nil before) in omega (arith, e)
 takes_serials ctx b advice before id place (order ∷ orders) =
     let x : Ruled = ruled id place order (ruling ctx b advice before place order) in
@@ -116,7 +116,7 @@ takes_serials ctx b advice before id place (order ∷ orders) =
     let e : next_serial b ((before ++ x ∷ []) ++ rest) ≡ next_serial b (before ++ x ∷ rest) = ap (next_serial b) (append_assoc before (x ∷ []) rest) in
     omega (arith, on, one, e)
 
-row_takes : (ctx : Context) (b : Book) (advice : List Ruling) (id : TxnId) (request : List ℕ) → next_serial b (ruled_rows ctx (b.rows ++ new_row ctx b advice id request ∷ [])) ≤ next_serial b (ruled_rows ctx b.rows) + length (ctx.orders request)
+row_takes : (ctx : Context) (b : Book) (advice : Advice) (id : TxnId) (request : List ℕ) → next_serial b (ruled_rows ctx (b.rows ++ new_row ctx b advice id request ∷ [])) ≤ next_serial b (ruled_rows ctx b.rows) + length (ctx.orders request)
 row_takes ctx b advice id request =
     let e = ap (next_serial b) (ruled_rows_more ctx b.rows (new_row ctx b advice id request)) in
     let t = takes_serials ctx b advice (ruled_rows ctx b.rows) id 1 (ctx.orders request) in

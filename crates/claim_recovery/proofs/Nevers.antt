@@ -3,7 +3,7 @@ use Rattle.std.proofs.Common.{◌≡◌, ℕ, ◌<◌, ◌≤◌, List, [], ◌�
 use Rattle.std.specs.Prelude.{⊤, option_map, option_and_then}
 use Rattle.std.specs.List.{AllByRecursion}
 use Rattle.std.proofs.lemmas.Bool.{cases_eq}
-use Rattle.claim_model.specs.Words.{TxnId, RequestHeader, Envelope, EnvelopeFault, Plan, PlanFault, Ruling}
+use Rattle.claim_model.specs.Words.{Advice, TxnId, RequestHeader, Envelope, EnvelopeFault, Plan, PlanFault}
 use Rattle.claim_model.specs.Context.{Context}
 use Rattle.claim_model.specs.Readable.{readable, payer_for, is_payer, is_request}
 use Rattle.claim_model.specs.declared.refusal.Refusal.{Refusal}
@@ -135,24 +135,24 @@ pub record IsFull (id : TxnId) (b : Book) : Type 0 where
   pub full : b.settings.cap ≤ length b.rows
   pub none : row_of id b.rows ≡ None
 
-room_in : (ctx : Context) (b : Book) (advice : List Ruling) (id : TxnId) (request : List ℕ) (h : RequestHeader) (o : Option Row) (a : Answered) → o ≡ None → answered_by ctx b advice id request h o ≡ Ok a → length b.rows < b.settings.cap
+room_in : (ctx : Context) (b : Book) (advice : Advice) (id : TxnId) (request : List ℕ) (h : RequestHeader) (o : Option Row) (a : Answered) → o ≡ None → answered_by ctx b advice id request h o ≡ Ok a → length b.rows < b.settings.cap
 room_in ctx b advice id request h (Some row) a is e = absurd cc
 room_in ctx b advice id request h None a is e = ltb-true _ _ (cond_ok (nat_lt (length b.rows) b.settings.cap) (entered_row ctx b h (has_verdicts ctx b advice id request) (new_row ctx b advice id request)) Refusal.BookFull a e).0
 
-room_of : (ctx : Context) (b : Book) (advice : List Ruling) (id : TxnId) (request : List ℕ) (o : Option RequestHeader) (a : Answered) → row_of id b.rows ≡ None → answered_readable ctx b advice id request o ≡ Ok a → length b.rows < b.settings.cap
+room_of : (ctx : Context) (b : Book) (advice : Advice) (id : TxnId) (request : List ℕ) (o : Option RequestHeader) (a : Answered) → row_of id b.rows ≡ None → answered_readable ctx b advice id request o ≡ Ok a → length b.rows < b.settings.cap
 room_of ctx b advice id request None a none e = absurd cc
 room_of ctx b advice id request (Some h) a none e = room_in ctx b advice id request h (row_of id b.rows) a none (cond_ok (is_payer b.payer (payer_for ctx id h)) (answered_by ctx b advice id request h (row_of id b.rows)) Refusal.NotOurs a e).1
 
 -- a new row needs room
-new_needs_room : (ctx : Context) (b : Book) (advice : List Ruling) (id : TxnId) (request : List ℕ) (a : Answered) → row_of id b.rows ≡ None → answered ctx b advice id request ≡ Ok a → length b.rows < b.settings.cap
+new_needs_room : (ctx : Context) (b : Book) (advice : Advice) (id : TxnId) (request : List ℕ) (a : Answered) → row_of id b.rows ≡ None → answered ctx b advice id request ≡ Ok a → length b.rows < b.settings.cap
 unfolding answered
 new_needs_room ctx b advice id request a none e = room_of ctx b advice id request (readable ctx request) a none e
 
-full_rows : (ctx : Context) (id : TxnId) (b : Book) (advice : List Ruling) (i : TxnId) (r : List ℕ) (h : RequestHeader) (a : Answered) → answered ctx b advice i r ≡ Ok a → IsFull id b → Rows ctx b advice i r h a → IsFull id a.book
+full_rows : (ctx : Context) (id : TxnId) (b : Book) (advice : Advice) (i : TxnId) (r : List ℕ) (h : RequestHeader) (a : Answered) → answered ctx b advice i r ≡ Ok a → IsFull id b → Rows ctx b advice i r h a → IsFull id a.book
 full_rows ctx id b advice i r h a e f (Known row found same book text) = subst (IsFull id) (sym book) f
 full_rows ctx id b advice i r h a e f (New fresh fits advised book text) = let room = new_needs_room ctx b advice i r a fresh e in let full = f.full in absurd (omega (arith, room, full))
 
-full_takes : (ctx : Context) (id : TxnId) (b : Book) (advice : List Ruling) (from : Node) (o : Result Envelope EnvelopeFault) (next : Power Book Book) (sent : List Sent) → IsFull id b → payer_takes ctx b advice from o ≡ Done next sent → IsFull id (book_in next)
+full_takes : (ctx : Context) (id : TxnId) (b : Book) (advice : Advice) (from : Node) (o : Result Envelope EnvelopeFault) (next : Power Book Book) (sent : List Sent) → IsFull id b → payer_takes ctx b advice from o ≡ Done next sent → IsFull id (book_in next)
 full_takes ctx id b advice from (Err fault) next sent f e = absurd cc
 full_takes ctx id b advice from (Ok env) next sent f e =
     let t = takes_parts (is_request env) (after_answer ctx from env.id (answered ctx b advice env.id env.payload)) next sent e in

@@ -6,13 +6,13 @@ use Rattle.std.proofs.lemmas.List.{append-nil}
 use Rattle.std.proofs.lemmas.List.Sums.{sum_by-append}
 use Rattle.std.proofs.lemmas.Bool.{and_parts, and_from, cond-true, cond-false, false_from_ne_true}
 use Rattle.std.proofs.lemmas.Bool.Decides.{nat_tests}
-use Rattle.claim_model.specs.Words.{TxnId, Amounts, Fill, Claim, Reversal, Order, Bills, Reverses, Code, NotCovered, Ruling, Paid, Duplicate, Reversed, Rejected}
+use Rattle.claim_model.specs.Words.{Advice, TxnId, Amounts, Fill, Claim, Reversal, Order, Bills, Reverses, Code, NotCovered, Ruling, Paid, Duplicate, Reversed, Rejected}
 use Rattle.claim_model.specs.Context.{Context}
 use Rattle.claim_model.specs.Ruled.{Ruled, ruled, ruled_from}
 use Rattle.claim_model.specs.Payments.{Payment, payment_by, payments, is_standing, standing}
 use Rattle.claim_model.specs.Numbered.{numbered}
 use Rattle.claim_model.specs.Rows.{Book}
-use Rattle.claim_model.specs.Judgement.{same_fill, same_claim, standing_for, payment_to_reverse, Unpriced, judged_claim, judged_reversal, judged, is_paid, next_serial, next_auth, Verdict, Pays, Rejects, planned, verdict_in, verdict_of, priced, ruling_of, ruling, rulings_from}
+use Rattle.claim_model.specs.Judgement.{same_fill, same_claim, standing_for, payment_to_reverse, Unpriced, Consent, Allows, Denies, consent_of, taken_back, judged_claim, judged_reversal, judged, is_paid, next_serial, next_auth, Verdict, Pays, Rejects, planned, verdict_in, verdict_of, priced, ruling_of, ruling, rulings_from}
 use Rattle.claim_model.specs.Book.{last_serial, serial_fits}
 use Rattle.claim_model.proofs.Lists.{all_weaker}
 use Rattle.claim_model.proofs.Tests.{fill_same, fill_self}
@@ -28,7 +28,7 @@ priced_fits b before c None room = refl
 priced_fits b before c (Some (Rejects codes)) room = refl
 priced_fits b before c (Some (Pays m)) room = nat_le_from (next_serial b before) last_serial room
 
-claim_fits : (ctx : Context) (b : Book) (advice : List Ruling) (before : List Ruled) (place : ℕ) (c : Claim) (o : Option Payment) → next_serial b before ≤ last_serial → serial_fits (ruling_of ctx b advice before place (judged_claim c o)) ≡ true
+claim_fits : (ctx : Context) (b : Book) (advice : Advice) (before : List Ruled) (place : ℕ) (c : Claim) (o : Option Payment) → next_serial b before ≤ last_serial → serial_fits (ruling_of ctx b advice before place (judged_claim c o)) ≡ true
 claim_fits ctx b advice before place c None room = priced_fits b before c (verdict_of ctx b advice place c) room
 claim_fits ctx b advice before place c (Some p) room = go (same_claim p.claim c)
   where
@@ -36,12 +36,17 @@ claim_fits ctx b advice before place c (Some p) room = go (same_claim p.claim c)
     go true = refl
     go false = refl
 
-reversal_fits : (ctx : Context) (b : Book) (advice : List Ruling) (before : List Ruled) (place : ℕ) (v : Reversal) (o : Option Payment) → serial_fits (ruling_of ctx b advice before place (judged_reversal v o)) ≡ true
+reversal_fits : (ctx : Context) (b : Book) (advice : Advice) (before : List Ruled) (place : ℕ) (v : Reversal) (o : Option Payment) → serial_fits (ruling_of ctx b advice before place (judged_reversal v o)) ≡ true
 reversal_fits ctx b advice before place v None = refl
-reversal_fits ctx b advice before place v (Some p) = refl
+reversal_fits ctx b advice before place v (Some p) = by_consent (consent_of b advice place v)
+  where
+    by_consent : (o : Option Consent) → serial_fits (taken_back p.auth v o) ≡ true
+    by_consent None = refl
+    by_consent (Some Allows) = refl
+    by_consent (Some (Denies codes)) = refl
 
 -- a ruling fits while there is a serial for it
-ruling_fits : (ctx : Context) (b : Book) (advice : List Ruling) (before : List Ruled) (place : ℕ) (order : Result Order (List Code)) → next_serial b before ≤ last_serial → serial_fits (ruling ctx b advice before place order) ≡ true
+ruling_fits : (ctx : Context) (b : Book) (advice : Advice) (before : List Ruled) (place : ℕ) (order : Result Order (List Code)) → next_serial b before ≤ last_serial → serial_fits (ruling ctx b advice before place order) ≡ true
 unfolding ruling judged
 ruling_fits ctx b advice before place (Err codes) room = refl
 ruling_fits ctx b advice before place (Ok (Bills c)) room = claim_fits ctx b advice before place c (standing_for c.fill before) room
@@ -64,7 +69,7 @@ next_least : (b : Book) (before : List Ruled) (x : Ruled) → next_serial b befo
 next_least b before x = omega (arith, paid_more before x)
 
 -- the rulings of a request fit where there are serials for all its transactions
-pub rulings_fit : (ctx : Context) (b : Book) (advice : List Ruling) (before : List Ruled) (id : TxnId) (place : ℕ) (orders : List (Result Order (List Code))) → next_serial b before + length orders ≤ last_serial + 1 → list_all serial_fits (rulings_from ctx b advice before id place orders) ≡ true
+pub rulings_fit : (ctx : Context) (b : Book) (advice : Advice) (before : List Ruled) (id : TxnId) (place : ℕ) (orders : List (Result Order (List Code))) → next_serial b before + length orders ≤ last_serial + 1 → list_all serial_fits (rulings_from ctx b advice before id place orders) ≡ true
 rulings_fit ctx b advice before id place [] room = refl
 rulings_fit ctx b advice before id place (order ∷ orders) room =
     let x : Ruled = ruled id place order (ruling ctx b advice before place order) in
@@ -79,7 +84,7 @@ priced_unpaid b before c None used fits = refl
 priced_unpaid b before c (Some (Rejects codes)) used fits = refl
 priced_unpaid b before c (Some (Pays m)) used fits = let le : next_serial b before ≤ last_serial = leb-true _ _ fits in absurd (omega (arith, le, used))
 
-claim_unpaid : (ctx : Context) (b : Book) (advice : List Ruling) (before : List Ruled) (place : ℕ) (c : Claim) (o : Option Payment) → last_serial < next_serial b before → serial_fits (ruling_of ctx b advice before place (judged_claim c o)) ≡ true → is_paid (ruling_of ctx b advice before place (judged_claim c o)) ≡ false
+claim_unpaid : (ctx : Context) (b : Book) (advice : Advice) (before : List Ruled) (place : ℕ) (c : Claim) (o : Option Payment) → last_serial < next_serial b before → serial_fits (ruling_of ctx b advice before place (judged_claim c o)) ≡ true → is_paid (ruling_of ctx b advice before place (judged_claim c o)) ≡ false
 claim_unpaid ctx b advice before place c None used fits = priced_unpaid b before c (verdict_of ctx b advice place c) used fits
 claim_unpaid ctx b advice before place c (Some p) used fits = go (same_claim p.claim c)
   where
@@ -87,12 +92,17 @@ claim_unpaid ctx b advice before place c (Some p) used fits = go (same_claim p.c
     go true = refl
     go false = refl
 
-reversal_unpaid : (ctx : Context) (b : Book) (advice : List Ruling) (before : List Ruled) (place : ℕ) (v : Reversal) (o : Option Payment) → is_paid (ruling_of ctx b advice before place (judged_reversal v o)) ≡ false
+reversal_unpaid : (ctx : Context) (b : Book) (advice : Advice) (before : List Ruled) (place : ℕ) (v : Reversal) (o : Option Payment) → is_paid (ruling_of ctx b advice before place (judged_reversal v o)) ≡ false
 reversal_unpaid ctx b advice before place v None = refl
-reversal_unpaid ctx b advice before place v (Some p) = refl
+reversal_unpaid ctx b advice before place v (Some p) = by_consent (consent_of b advice place v)
+  where
+    by_consent : (o : Option Consent) → is_paid (taken_back p.auth v o) ≡ false
+    by_consent None = refl
+    by_consent (Some Allows) = refl
+    by_consent (Some (Denies codes)) = refl
 
 -- a ruling that fits is no payment then
-ruling_unpaid : (ctx : Context) (b : Book) (advice : List Ruling) (before : List Ruled) (place : ℕ) (order : Result Order (List Code)) → last_serial < next_serial b before → serial_fits (ruling ctx b advice before place order) ≡ true → is_paid (ruling ctx b advice before place order) ≡ false
+ruling_unpaid : (ctx : Context) (b : Book) (advice : Advice) (before : List Ruled) (place : ℕ) (order : Result Order (List Code)) → last_serial < next_serial b before → serial_fits (ruling ctx b advice before place order) ≡ true → is_paid (ruling ctx b advice before place order) ≡ false
 unfolding ruling judged
 ruling_unpaid ctx b advice before place (Err codes) used fits = refl
 ruling_unpaid ctx b advice before place (Ok (Bills c)) used fits = claim_unpaid ctx b advice before place c (standing_for c.fill before) used fits
@@ -139,15 +149,15 @@ none_more c before x e none =
 -- ---- a claim that wants a serial
 
 -- a payer that does not ask has its plan's verdict
-pub plan_verdict : (ctx : Context) (b : Book) (advice : List Ruling) (place : ℕ) (c : Claim) (o : Option Amounts) → b.settings.asks ≡ false → ctx.price b.plan c ≡ o → verdict_of ctx b advice place c ≡ Some (planned o)
-plan_verdict ctx b advice place c o by_plan price = cond-false b.settings.asks (verdict_in c.fill.prescription (numbered advice place)) (Some (planned (ctx.price b.plan c))) by_plan ∙ ap (λ (x : Option Amounts). Some (planned x)) price
+pub plan_verdict : (ctx : Context) (b : Book) (advice : Advice) (place : ℕ) (c : Claim) (o : Option Amounts) → b.settings.asks ≡ false → ctx.price b.plan c ≡ o → verdict_of ctx b advice place c ≡ Some (planned o)
+plan_verdict ctx b advice place c o by_plan price = cond-false b.settings.asks (verdict_in c.fill.prescription (numbered advice.rulings place)) (Some (planned (ctx.price b.plan c))) by_plan ∙ ap (λ (x : Option Amounts). Some (planned x)) price
 
-wants : (ctx : Context) (b : Book) (advice : List Ruling) (before : List Ruled) (place : ℕ) (c : Claim) (m : Amounts) → b.settings.asks ≡ false → standing_for c.fill before ≡ None → ctx.price b.plan c ≡ Some m → ruling ctx b advice before place (Ok (Bills c)) ≡ Paid (next_auth b before) c.fill.prescription m
+wants : (ctx : Context) (b : Book) (advice : Advice) (before : List Ruled) (place : ℕ) (c : Claim) (m : Amounts) → b.settings.asks ≡ false → standing_for c.fill before ≡ None → ctx.price b.plan c ≡ Some m → ruling ctx b advice before place (Ok (Bills c)) ≡ Paid (next_auth b before) c.fill.prescription m
 unfolding ruling judged
 wants ctx b advice before place c m by_plan none price = ap (λ o. ruling_of ctx b advice before place (judged_claim c o)) none ∙ ap (priced (next_auth b before) c) (plan_verdict ctx b advice place c (Some m) by_plan price)
 
 -- where no serial is left, a request with such a claim does not fit
-pub wanted_refused : (ctx : Context) (b : Book) (advice : List Ruling) (before : List Ruled) (id : TxnId) (place k : ℕ) (orders : List (Result Order (List Code))) (c : Claim) (m : Amounts) → b.settings.asks ≡ false → last_serial < next_serial b before → standing_for c.fill before ≡ None → ctx.price b.plan c ≡ Some m
+pub wanted_refused : (ctx : Context) (b : Book) (advice : Advice) (before : List Ruled) (id : TxnId) (place k : ℕ) (orders : List (Result Order (List Code))) (c : Claim) (m : Amounts) → b.settings.asks ≡ false → last_serial < next_serial b before → standing_for c.fill before ≡ None → ctx.price b.plan c ≡ Some m
     → slice_get orders k ≡ Some (Ok (Bills c)) → list_all serial_fits (rulings_from ctx b advice before id place orders) ≡ true → ⊥
 wanted_refused ctx b advice before id place k [] c m by_plan used none price at fits = cc
 wanted_refused ctx b advice before id place zero (order ∷ orders) c m by_plan used none price at fits =
@@ -170,7 +180,7 @@ pub record StillUsed (b : Book) (c : Claim) (after : List Ruled) : Type 0 where
   pub used : last_serial < next_serial b after
   pub none : standing_for c.fill after ≡ None
 
-pub still_used : (ctx : Context) (b : Book) (advice : List Ruling) (before : List Ruled) (id : TxnId) (place : ℕ) (orders : List (Result Order (List Code))) (c : Claim) → last_serial < next_serial b before → standing_for c.fill before ≡ None
+pub still_used : (ctx : Context) (b : Book) (advice : Advice) (before : List Ruled) (id : TxnId) (place : ℕ) (orders : List (Result Order (List Code))) (c : Claim) → last_serial < next_serial b before → standing_for c.fill before ≡ None
     → list_all serial_fits (rulings_from ctx b advice before id place orders) ≡ true → StillUsed b c (before ++ ruled_from id place orders (rulings_from ctx b advice before id place orders))
 still_used ctx b advice before id place [] c used none fits = subst (StillUsed b c) (sym (append-nil before)) (record { used = used; none = none })
 still_used ctx b advice before id place (order ∷ orders) c used none fits =
@@ -183,7 +193,7 @@ still_used ctx b advice before id place (order ∷ orders) c used none fits =
 
 -- ---- a plan that pays nothing
 
-unpriced_claim : (ctx : Context) (b : Book) (advice : List Ruling) (before : List Ruled) (place : ℕ) (c : Claim) (o : Option Payment) → b.settings.asks ≡ false → ctx.price b.plan c ≡ None → is_paid (ruling_of ctx b advice before place (judged_claim c o)) ≡ false
+unpriced_claim : (ctx : Context) (b : Book) (advice : Advice) (before : List Ruled) (place : ℕ) (c : Claim) (o : Option Payment) → b.settings.asks ≡ false → ctx.price b.plan c ≡ None → is_paid (ruling_of ctx b advice before place (judged_claim c o)) ≡ false
 unpriced_claim ctx b advice before place c None by_plan none = ap (λ o. is_paid (priced (next_auth b before) c o)) (plan_verdict ctx b advice place c None by_plan none)
 unpriced_claim ctx b advice before place c (Some p) by_plan none = go (same_claim p.claim c)
   where
@@ -191,7 +201,7 @@ unpriced_claim ctx b advice before place c (Some p) by_plan none = go (same_clai
     go true = refl
     go false = refl
 
-unpriced : (ctx : Context) (b : Book) (advice : List Ruling) (before : List Ruled) (place : ℕ) (order : Result Order (List Code)) → b.settings.asks ≡ false → ((c : Claim) → order ≡ Ok (Bills c) → ctx.price b.plan c ≡ None) → is_paid (ruling ctx b advice before place order) ≡ false
+unpriced : (ctx : Context) (b : Book) (advice : Advice) (before : List Ruled) (place : ℕ) (order : Result Order (List Code)) → b.settings.asks ≡ false → ((c : Claim) → order ≡ Ok (Bills c) → ctx.price b.plan c ≡ None) → is_paid (ruling ctx b advice before place order) ≡ false
 unfolding ruling judged
 unpriced ctx b advice before place (Err codes) by_plan none = refl
 unpriced ctx b advice before place (Ok (Bills c)) by_plan none = unpriced_claim ctx b advice before place c (standing_for c.fill before) by_plan (none c refl)
@@ -207,7 +217,7 @@ unpaid_fits (Rejected codes) e = refl
 abbrev pub NonePriced : Context → Book → List (Result Order (List Code)) → Type 0
 NonePriced ctx b orders = (k : ℕ) (c : Claim) → slice_get orders k ≡ Some (Ok (Bills c)) → ctx.price b.plan c ≡ None
 
-pub unpriced_fit : (ctx : Context) (b : Book) (advice : List Ruling) (before : List Ruled) (id : TxnId) (place : ℕ) (orders : List (Result Order (List Code))) → b.settings.asks ≡ false → NonePriced ctx b orders → list_all serial_fits (rulings_from ctx b advice before id place orders) ≡ true
+pub unpriced_fit : (ctx : Context) (b : Book) (advice : Advice) (before : List Ruled) (id : TxnId) (place : ℕ) (orders : List (Result Order (List Code))) → b.settings.asks ≡ false → NonePriced ctx b orders → list_all serial_fits (rulings_from ctx b advice before id place orders) ≡ true
 unpriced_fit ctx b advice before id place [] by_plan none = refl
 unpriced_fit ctx b advice before id place (order ∷ orders) by_plan none =
     let x : Ruled = ruled id place order (ruling ctx b advice before place order) in
@@ -215,12 +225,12 @@ unpriced_fit ctx b advice before id place (order ∷ orders) by_plan none =
     (unpaid_fits (ruling ctx b advice before place order) (unpriced ctx b advice before place order by_plan (λ c e. none 0 c (ap (λ (o : Result Order (List Code)). Some o) e))))
     (unpriced_fit ctx b advice (before ++ x ∷ []) id (place + 1) orders by_plan (λ k c e. none (suc k) c e))
 
-rejects : (ctx : Context) (b : Book) (advice : List Ruling) (before : List Ruled) (place : ℕ) (c : Claim) → b.settings.asks ≡ false → standing_for c.fill before ≡ None → ctx.price b.plan c ≡ None → ruling ctx b advice before place (Ok (Bills c)) ≡ Rejected (NotCovered ∷ [])
+rejects : (ctx : Context) (b : Book) (advice : Advice) (before : List Ruled) (place : ℕ) (c : Claim) → b.settings.asks ≡ false → standing_for c.fill before ≡ None → ctx.price b.plan c ≡ None → ruling ctx b advice before place (Ok (Bills c)) ≡ Rejected (NotCovered ∷ [])
 unfolding ruling judged
 rejects ctx b advice before place c by_plan none price = ap (λ o. ruling_of ctx b advice before place (judged_claim c o)) none ∙ ap (priced (next_auth b before) c) (plan_verdict ctx b advice place c None by_plan price)
 
 -- and each of them that has no standing payment is rejected with 70
-pub unpriced_rejected : (ctx : Context) (b : Book) (advice : List Ruling) (before : List Ruled) (id : TxnId) (place k : ℕ) (orders : List (Result Order (List Code))) (c : Claim) → b.settings.asks ≡ false → NonePriced ctx b orders → standing_for c.fill before ≡ None → slice_get orders k ≡ Some (Ok (Bills c))
+pub unpriced_rejected : (ctx : Context) (b : Book) (advice : Advice) (before : List Ruled) (id : TxnId) (place k : ℕ) (orders : List (Result Order (List Code))) (c : Claim) → b.settings.asks ≡ false → NonePriced ctx b orders → standing_for c.fill before ≡ None → slice_get orders k ≡ Some (Ok (Bills c))
     → slice_get (rulings_from ctx b advice before id place orders) k ≡ Some (Rejected (NotCovered ∷ []))
 unpriced_rejected ctx b advice before id place k [] c by_plan none free at = absurd cc
 unpriced_rejected ctx b advice before id place zero (order ∷ orders) c by_plan none free at =

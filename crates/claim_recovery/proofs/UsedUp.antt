@@ -3,7 +3,7 @@ use Rattle.std.proofs.Common.{◌≡◌, ℕ, zero, suc, ◌<◌, Bool, true, fa
 use Rattle.std.specs.Prelude.{⊤, option_map, option_and_then}
 use Rattle.std.specs.List.{AllByRecursion, list_all}
 use Rattle.std.proofs.lemmas.Bool.{cond-true}
-use Rattle.claim_model.specs.Words.{TxnId, RequestHeader, Envelope, EnvelopeFault, Plan, Code, Claim, Amounts, Bills, Ruling, Change}
+use Rattle.claim_model.specs.Words.{Advice, TxnId, RequestHeader, Envelope, EnvelopeFault, Plan, Code, Claim, Amounts, Bills, Ruling, Change}
 use Rattle.claim_model.specs.Context.{Context}
 use Rattle.claim_model.specs.Readable.{payer_for, same_id, is_request}
 use Rattle.claim_model.specs.Numbered.{numbered}
@@ -56,7 +56,7 @@ row_cases id rows row x None is e = go (same_id row.id id) (sym (find_beyond _ r
     go true h = inr (sym (same_some row x h))
     go false h = absurd cc
 
-used_rows : (ctx : Context) (id : TxnId) (request : List ℕ) (c : Claim) (m : Amounts) (k : ℕ) (b : Book) (advice : List Ruling) (i : TxnId) (r : List ℕ) (h : RequestHeader) (a : Answered) → slice_get (ctx.orders request) k ≡ Some (Ok (Bills c)) → IsUsedUp ctx id request c m b → Rows ctx b advice i r h a → IsUsedUp ctx id request c m a.book
+used_rows : (ctx : Context) (id : TxnId) (request : List ℕ) (c : Claim) (m : Amounts) (k : ℕ) (b : Book) (advice : Advice) (i : TxnId) (r : List ℕ) (h : RequestHeader) (a : Answered) → slice_get (ctx.orders request) k ≡ Some (Ok (Bills c)) → IsUsedUp ctx id request c m b → Rows ctx b advice i r h a → IsUsedUp ctx id request c m a.book
 used_rows ctx id request c m k b advice i r h a at u (Known row found same book text) = subst (IsUsedUp ctx id request c m) (sym book) u
 used_rows ctx id request c m k b advice i r h a at u (New fresh fits advised book text) =
     let row : Row = new_row ctx b advice i r in
@@ -76,7 +76,7 @@ used_rows ctx id request c m k b advice i r h a at u (New fresh fits advised boo
       ];
     })
 
-used_takes : (ctx : Context) (id : TxnId) (request : List ℕ) (c : Claim) (m : Amounts) (k : ℕ) (b : Book) (advice : List Ruling) (from : Node) (o : Result Envelope EnvelopeFault) (next : Power Book Book) (sent : List Sent) → slice_get (ctx.orders request) k ≡ Some (Ok (Bills c)) → IsUsedUp ctx id request c m b
+used_takes : (ctx : Context) (id : TxnId) (request : List ℕ) (c : Claim) (m : Amounts) (k : ℕ) (b : Book) (advice : Advice) (from : Node) (o : Result Envelope EnvelopeFault) (next : Power Book Book) (sent : List Sent) → slice_get (ctx.orders request) k ≡ Some (Ok (Bills c)) → IsUsedUp ctx id request c m b
     → payer_takes ctx b advice from o ≡ Done next sent → IsUsedUp ctx id request c m (book_in next)
 used_takes ctx id request c m k b advice from (Err fault) next sent at u e = absurd cc
 used_takes ctx id request c m k b advice from (Ok env) next sent at u e =
@@ -175,7 +175,7 @@ rejected_after ctx given w journal id request h payer b change plan r timely the
     let book : book_at v payer ≡ Some b' = ap (option_map book_in) (numbered_put w.payers payer (Up b) (Up b') up) in
     let route : payer_for ctx id h ≡ Some b'.payer = x.route ∙ ap (λ (k : ℕ). Some k) (sym (book_sound ctx given w payer b (reached_sound ctx given w r) x.book).payer) in
     let fits : list_all serial_fits (new_row ctx b' unadvised id request).rulings ≡ true = unpriced_fit ctx b' unadvised (ruled_rows ctx b'.rows) id 1 (ctx.orders request) by_plan (none_priced ctx b plan request none) in
-    let answer : Answered = record { book = one_row_more ctx b' unadvised id request; bytes = Rattle.claim_model.specs.Readable.answer_text ctx h (new_row ctx b' unadvised id request).rulings; kept = false } in
+    let answer : Answered = record { book = one_row_more ctx b' unadvised id request; bytes = Rattle.claim_model.specs.Readable.answer_text ctx h (new_row ctx b' unadvised id request); kept = false } in
     let answers : answered ctx b' unadvised id request ≡ Ok answer =
     answers_new ctx b' unadvised id request h x.reads route fresh room fits (unasked_advised ctx b' unadvised (ruled_rows ctx b'.rows) id 1 (ctx.orders request) by_plan) in
     let answerable : Answerable ctx v id request = λ header other reads its_route.

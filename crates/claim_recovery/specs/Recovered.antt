@@ -1,7 +1,7 @@
 -- An open entry is answered by a short list of events, and nobody else is touched.
 use Rattle.std.specs.Prelude.{◌≡◌, ℕ, true, ◌≤◌, List, [], ◌∷◌, ◌++◌, length, Option, Some, None, Ok}
 use Rattle.std.specs.List.{AllByRecursion}
-use Rattle.claim_model.specs.Words.{TxnId, RequestHeader, Ruling}
+use Rattle.claim_model.specs.Words.{Advice, TxnId, RequestHeader}
 use Rattle.claim_model.specs.Context.{Context}
 use Rattle.claim_model.specs.Readable.{readable, payer_for}
 use Rattle.claim_model.specs.Rows.{Book}
@@ -23,7 +23,7 @@ pub data Handed (b : Book) : Type 0 where
   ByAdvice : (advice : List ℕ) → b.settings.asks ≡ true → Handed b
 
 -- the rulings that a payer then has beside its book
-abbrev pub handed_with : Context → (b : Book) → Handed b → List Ruling
+abbrev pub handed_with : Context → (b : Book) → Handed b → Advice
 handed_with ctx b ByDelivery = unadvised
 handed_with ctx b (ByAdvice advice asks) = advice_in ctx advice
 
@@ -59,7 +59,7 @@ abbrev pub RecoveredThrough : Context → World → JournalAtRest → TxnId → 
 RecoveredThrough ctx w journal id = RecoveredBy ctx w id (HelpsWithoutSwitch (length w.packets) id.pharmacy) (circle journal.settings) 2
 
 -- a book with one row more, which is what the rules give for this request with an advice
-abbrev pub one_row_more : Context → Book → List Ruling → TxnId → List ℕ → Book
+abbrev pub one_row_more : Context → Book → Advice → TxnId → List ℕ → Book
 one_row_more ctx b advice id request = record { payer = b.payer; settings = b.settings; plan = b.plan; rows = b.rows ++ new_row ctx b advice id request ∷ [] }
 
 -- the payer of the route of a request
@@ -71,7 +71,7 @@ pub record IsRouted (ctx : Context) (id : TxnId) (request : List ℕ) (payer : �
 -- a book is as it was; or it is of the payer of the route, had no row of the id, and has this one row more
 pub data BookLeft (ctx : Context) (id : TxnId) (request : List ℕ) (payer : ℕ) (before after : Option Book) : Type 0 where
   AsItWas : after ≡ before → BookLeft ctx id request payer before after
-  OneRowMore : (b : Book) → (advice : List Ruling) → before ≡ Some b → row_of id b.rows ≡ None → IsRouted ctx id request payer → after ≡ Some (one_row_more ctx b advice id request) → BookLeft ctx id request payer before after
+  OneRowMore : (b : Book) → (advice : Advice) → before ≡ Some b → row_of id b.rows ≡ None → IsRouted ctx id request payer → after ≡ Some (one_row_more ctx b advice id request) → BookLeft ctx id request payer before after
 
 -- what a recovery leaves as it was. The tables of switches are not named here: a full one may lose its oldest entry
 pub record LeavesOthers (ctx : Context) (w v : World) (id : TxnId) (request : List ℕ) : Type 0 where

@@ -1,11 +1,11 @@
 -- What a book must have to answer a new request, and what it means to be never answered.
-use Rattle.std.specs.Prelude.{◌≡◌, ℕ, ◌+◌, ◌<◌, ◌≤◌, false, List, [], ◌∷◌, length, slice_get, ⊤, Some, None, IsSome, Result, Ok}
+use Rattle.std.specs.Prelude.{◌≡◌, ℕ, ◌+◌, ◌<◌, ◌≤◌, true, false, List, [], ◌∷◌, length, slice_get, ⊤, Some, None, IsSome, Result, Ok, Err}
 use Rattle.std.specs.List.{AllByRecursion}
-use Rattle.claim_model.specs.Words.{TxnId, RequestHeader, Claim, Order, Bills, Code, NotCovered, Ruling, Rejected, Plan, Amounts, Change}
+use Rattle.claim_model.specs.Words.{TxnId, RequestHeader, Claim, Order, Bills, Reverses, Code, NotCovered, Ruling, Rejected, Plan, Amounts, Change}
 use Rattle.claim_model.specs.Context.{Context}
 use Rattle.claim_model.specs.Readable.{readable, payer_for}
-use Rattle.claim_model.specs.Rows.{Book, ruled_rows}
-use Rattle.claim_model.specs.Judgement.{verdict_in, standing_for, next_serial}
+use Rattle.claim_model.specs.Rows.{BookSettings, Book, ruled_rows}
+use Rattle.claim_model.specs.Judgement.{verdict_in, consent_in, asks_reversals, standing_for, next_serial}
 use Rattle.claim_model.specs.Book.{last_serial, row_of, new_row, unadvised, Answered, answered}
 use Rattle.claim_model.specs.Numbered.{numbered}
 use Rattle.claim_model.specs.Journal.{JournalAtRest}
@@ -47,9 +47,15 @@ KeepsPlan payer (Starting node) = ⊤
 KeepsPlan payer (PlanChange n change) = n ≡ payer → ⊥
 KeepsPlan payer (Adjudication k advice) = ⊤
 
--- an advice has a verdict on each claim of some orders, at its place
-abbrev pub AdvisesAll : List Ruling → List (Result Order (List Code)) → Type 0
-AdvisesAll advice orders = (k : ℕ) (claim : Claim) → slice_get orders k ≡ Some (Ok (Bills claim)) → IsSome (verdict_in claim.fill.prescription (slice_get advice k))
+-- an advice has what may be asked about the order at a place, from 0: a verdict on a claim, and a consent to a reversal where the payer asks about these
+abbrev pub Advises : BookSettings → List Ruling → ℕ → Result Order (List Code) → Type 0
+Advises s advice k (Err codes) = ⊤
+Advises s advice k (Ok (Bills c)) = IsSome (verdict_in c.fill.prescription (slice_get advice k))
+Advises s advice k (Ok (Reverses v)) = asks_reversals s ≡ true → IsSome (consent_in v.prescription (slice_get advice k))
+
+-- and about each order
+abbrev pub AdvisesAll : BookSettings → List Ruling → List (Result Order (List Code)) → Type 0
+AdvisesAll s advice orders = (k : ℕ) (order : Result Order (List Code)) → slice_get orders k ≡ Some order → Advises s advice k order
 
 -- the payer prices by its plan, and one of the claims of a request has no standing payment for its fill, and the plan would pay it
 pub record WantsSerial (ctx : Context) (b : Book) (request : List ℕ) : Type 0 where

@@ -31,12 +31,12 @@ pub fn room_and_serials_suffice()
         → WouldAnswer ctx w payer id request }
 {}
 
-/// Where the payer asks, any advice with a verdict on each claim will do.
+/// Where the payer asks, any advice with a verdict on each claim, and with a consent to each reversal where it asks about these, will do.
 pub fn every_advice_suffices()
     ensures { (ctx : Context) (settings : WorldSettings) (w : World) (id : TxnId) (request advice : List ℕ)
         (header : RequestHeader) (payer : ℕ) (b : Book) → Reached ctx settings w
         → IsAskedOf ctx w id request header payer b → b.settings.asks ≡ true → row_of id b.rows ≡ None
-        → HasRoom ctx b header.count → AdvisesAll (advice_in ctx advice) (ctx.orders request)
+        → HasRoom ctx b header.count → AdvisesAll b.settings (advice_in ctx advice).rulings (ctx.orders request)
         → (answer : Answered) × (answered ctx b (advice_in ctx advice) id request ≡ Ok answer) }
 {}
 

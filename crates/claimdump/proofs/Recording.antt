@@ -72,10 +72,7 @@ refused_adds ctx w event why q logs =
 -- what was sent is what was posted
 as_sent : (node : Node) (sent : List Sent) → map sent_as (map (packet_from node) sent) ≡ sent
 as_sent node [] = refl
-as_sent node (s ∷ sent) = cons_alike refl (as_sent node sent)
-  where
-    cons_alike : {s : Sent} {xs ys : List Sent} → s ≡ s → xs ≡ ys → (s ∷ xs) ≡ (s ∷ ys)
-    cons_alike e es = cc
+as_sent node (s ∷ sent) = ap (λ (more : List Sent). s ∷ more) (as_sent node sent)
 
 pub sent_is : (w v : World) (node : Node) (sent : List Sent) (first : ℕ) → v.packets ≡ w.packets ++ map (packet_from node) sent → first ≡ length w.packets + 1 → sent_from v.packets first ≡ sent
 sent_is w v node sent first posts is =

@@ -2,7 +2,7 @@
 use Rattle.std.proofs.Common.{◌≡◌, ℕ, zero, suc, ◌≤◌, Bool, true, false, cond, List, [], ◌∷◌, ◌++◌, map, length, Option, Some, None, Result, Ok, Err, refl, sym, ap, ◌∙◌, subst, ◌⊎◌, inl, inr, arith}
 use Rattle.std.specs.Prelude.{⊤, option_map}
 use Rattle.std.specs.List.{AllByRecursion}
-use Rattle.claim_model.specs.Words.{TxnId, RequestHeader, Envelope, EnvelopeFault, Answer, Plan, PlanFault, Ruling}
+use Rattle.claim_model.specs.Words.{Advice, TxnId, RequestHeader, Envelope, EnvelopeFault, Answer, Plan, PlanFault}
 use Rattle.claim_model.specs.declared.refusal.Refusal.{Refusal}
 use Rattle.claim_model.specs.Context.{Context}
 use Rattle.claim_model.specs.Laws.{Laws}
@@ -194,14 +194,14 @@ pub record PayerTook (ctx : Context) (w : World) (n : ℕ) (from : Node) (bytes 
   pub carries : Carries ctx w bytes
   pub asks : is_request carries.envelope ≡ true
   pub book : Book
-  pub advice : List Ruling
+  pub advice : Advice
   pub answered_is : Answered
   pub ruled : Ruled_on ctx book advice carries.envelope.id carries.envelope.payload answered_is
   pub payer : book.payer ≡ n
   pub next_is : next ≡ OfPayer (Up answered_is.book)
   pub sent_is : sent ≡ record { to = from; bytes = ctx.envelope (answer_envelope carries.envelope.id answered_is.bytes) } ∷ []
 
-took_so : (ctx : Context) (s : WorldSettings) (w : World) (n : ℕ) (from : Node) (bytes : List ℕ) (b : Book) (advice : List Ruling) (next : AnyNode) (sent : List Sent) → Laws ctx → Carries ctx w bytes → SoundBook ctx s w n b
+took_so : (ctx : Context) (s : WorldSettings) (w : World) (n : ℕ) (from : Node) (bytes : List ℕ) (b : Book) (advice : Advice) (next : AnyNode) (sent : List Sent) → Laws ctx → Carries ctx w bytes → SoundBook ctx s w n b
     → as_node OfPayer (payer_takes ctx b advice from (ctx.read_envelope bytes)) ≡ Done next sent → PayerTook ctx w n from bytes next sent
 took_so ctx s w n from bytes b advice next sent laws c sb e =
     let d = as_node_done OfPayer (payer_takes ctx b advice from (ctx.read_envelope bytes)) next sent e in
@@ -410,20 +410,20 @@ of_pharmacy : (ctx : Context) (packets : List Packet) (n : ℕ) (sent : List Sen
 of_pharmacy ctx packets n sent k m bytes a = absurd (no_payer n k (from_it (Pharmacy n) sent (packet (Payer k) (Switch m) bytes) a))
 
 -- an answer of a payer is short
-answer_short : (ctx : Context) (s : WorldSettings) (w : World) (n : ℕ) (b : Book) (advice : List Ruling) (id : TxnId) (request : List ℕ) (h : RequestHeader) (a : Answered) → Laws ctx → SoundBook ctx s w n a.book → readable ctx request ≡ Some h
+answer_short : (ctx : Context) (s : WorldSettings) (w : World) (n : ℕ) (b : Book) (advice : Advice) (id : TxnId) (request : List ℕ) (h : RequestHeader) (a : Answered) → Laws ctx → SoundBook ctx s w n a.book → readable ctx request ≡ Some h
     → Rows ctx b advice id request h a → length a.bytes ≤ longest
 answer_short ctx s w n b advice id request h a laws sb reads (Known row found same book text) =
     let y : SoundRow ctx w n a.book.rows row = find_all (SoundRow ctx w n a.book.rows) _ a.book.rows row sb.rows (ap (λ (q : Book). Rattle.claim_model.specs.Book.row_of id q.rows) book ∙ found) in
     let same_header : y.header ≡ h = same_some y.header h (sym y.reads ∙ (ap (readable ctx) same ∙ reads)) in
-    subst (λ (t : List ℕ). length t ≤ longest) (ap (λ (g : RequestHeader). answer_text ctx g row.rulings) same_header ∙ sym text)
-    (row_spells ctx row.request y.header row.rulings laws y.reads y.count y.written).short
+    subst (λ (t : List ℕ). length t ≤ longest) (ap (λ (g : RequestHeader). answer_text ctx g row) same_header ∙ sym text)
+    (row_spells ctx row.request y.header row laws y.reads y.count y.written).short
 answer_short ctx s w n b advice id request h a laws sb reads (New fresh fits_all advised book text) =
     let row = new_row ctx b advice id request in
     let all : AllByRecursion (SoundRow ctx w n a.book.rows) (b.rows ++ row ∷ []) = subst (λ (q : Book). AllByRecursion (SoundRow ctx w n a.book.rows) q.rows) book sb.rows in
     let y : SoundRow ctx w n a.book.rows row = (all_right (SoundRow ctx w n a.book.rows) b.rows (row ∷ []) all).0 in
     let same_header : y.header ≡ h = same_some y.header h (sym y.reads ∙ reads) in
-    subst (λ (t : List ℕ). length t ≤ longest) (ap (λ (g : RequestHeader). answer_text ctx g row.rulings) same_header ∙ sym text)
-    (row_spells ctx row.request y.header row.rulings laws y.reads y.count y.written).short
+    subst (λ (t : List ℕ). length t ≤ longest) (ap (λ (g : RequestHeader). answer_text ctx g row) same_header ∙ sym text)
+    (row_spells ctx row.request y.header row laws y.reads y.count y.written).short
 
 same_to : (n k m : ℕ) (from : Node) (out bytes : List ℕ) → packet (Payer n) from out ≡ packet (Payer k) (Switch m) bytes → (from ≡ Switch m) × (out ≡ bytes)
 same_to n k m from out bytes e = (ap (λ (p : Packet). p.to) e, ap (λ (p : Packet). p.bytes) e)

@@ -1,14 +1,12 @@
 -- What the disks of a growing network hold together is a run under the settings that all have or can go over to.
-use Rattle.std.proofs.Common.{◌≡◌, ◌≤◌, ℕ, List, [], ◌∷◌, ◌++◌, Option, Some, None, refl, sym, ap, ◌∙◌, subst, inl, inr}
-use Rattle.std.specs.List.{AllByRecursion}
+use Rattle.std.proofs.Common.{◌≡◌, ℕ, List, [], ◌∷◌, ◌++◌, Option, Some, None, refl, sym, ap, ◌∙◌, subst, inl, inr}
 use Rattle.claim_model.specs.Context.{Context}
-use Rattle.claim_model.specs.Laws.{Laws}
 use Rattle.claim_model.specs.Numbered.{numbered}
 use Rattle.claim_model.specs.Node.{Node}
 use Rattle.claim_model.specs.World.{World, Packet, Event, run}
-use Rattle.claim_model.specs.Settings.{WorldSettings, Accepts, opening}
+use Rattle.claim_model.specs.Settings.{opening}
 use Rattle.claim_model.specs.Nodes.{AnyNode, node_at}
-use Rattle.claim_model.specs.Logs.{Logged, Makes, log_in, posted_by}
+use Rattle.claim_model.specs.Logs.{Logged, log_in, posted_by}
 use Rattle.claim_model.specs.Promises.{Always, OneAnswer, OneStandingPayment, ReversedByOwner, CountedPaymentsStand, StandingAreCounted}
 use Rattle.claim_model.proofs.Lists.{all_at, all_weaker}
 use Rattle.claim_model.proofs.Held.{one_answer}
@@ -20,9 +18,9 @@ use Rattle.settings_growth.proofs.Turns.{MakesAt, made_turns}
 use Rattle.crash_safety.specs.Network.{Process, Network, file}
 use Rattle.crash_safety.specs.Runs.{IsAmong, IsReplay, HasRun, on_disks, in_files}
 use Rattle.crash_safety.specs.Kept.{AreNodes}
-use Rattle.crash_safety.specs.Growing.{Stage, Grow, Growing, Change, stopped, at_outset, grown, Stay, AreWithin, RunsAt, HoldsAt, WhateverGrows}
+use Rattle.crash_safety.specs.Growing.{Stage, Grow, Growing, Change, stopped, at_outset, grown, Stay, AreWithin, RunsAt, WhateverGrows}
 use Rattle.crash_safety.proofs.Replaying.{makes_left}
-use Rattle.crash_safety.proofs.Sound.{Comes, CanCome, IsWell, IsSound}
+use Rattle.crash_safety.proofs.Sound.{Comes, IsSound}
 use Rattle.crash_safety.proofs.Moving.{comes_again, none_some, sent_by}
 use Rattle.crash_safety.proofs.Finishing.{files_run}
 use Rattle.crash_safety.proofs.Worlds.{with_packets, nodes_of_run, is_of_run, reached}

@@ -4,11 +4,10 @@ use Rattle.std.specs.Prelude.{map, flat_map, take, drop}
 use Rattle.std.specs.List.{AllByRecursion}
 use Rattle.std.proofs.lemmas.List.{append-nil, take-append-drop}
 use Rattle.std.proofs.lemmas.Bool.{cases_eq}
-use Rattle.claim_model.specs.Context.{Context}
 use Rattle.claim_model.specs.Numbered.{numbered}
 use Rattle.claim_model.specs.Node.{Node, Sent}
-use Rattle.claim_model.specs.World.{Packet, Event, posted, packet_from}
-use Rattle.claim_model.specs.Settings.{WorldSettings, opening}
+use Rattle.claim_model.specs.World.{Packet, Event, packet_from}
+use Rattle.claim_model.specs.Settings.{opening}
 use Rattle.claim_model.specs.Nodes.{AnyNode, node_at, same_node, Asked, asked}
 use Rattle.claim_model.specs.Logs.{Logged, Makes, posted_by}
 use Rattle.claim_model.proofs.Lists.{numbered_append, numbered_more, all_at, all_append, all_weaker}
@@ -20,7 +19,7 @@ use Rattle.settings_growth.specs.Orders.{Turn, IsOrder, turns_of}
 use Rattle.settings_growth.specs.Growth.{Grows, RejectionsStay, with_cap}
 use Rattle.settings_growth.proofs.Growing.{grows_on, grows_itself}
 use Rattle.settings_growth.proofs.Replayed.{goes_over}
-use Rattle.crash_safety.specs.Network.{Process, Network, Move, Calling, Syncing, Saying, Crashing, Restarting, file, replayed, put, calls, calling, one_synced, saying, crashed, restarted, beginning, moved}
+use Rattle.crash_safety.specs.Network.{Process, Network, Move, Calling, Syncing, Saying, Crashing, Restarting, file, replayed, put, calls, calling, one_synced, saying, crashed, restarted, moved}
 use Rattle.crash_safety.specs.Runs.{IsAmong}
 use Rattle.crash_safety.specs.Growing.{Stage, Grow, Growing, Change, Moving, Going, asked_node, staged, stopped, changed, after_changes, at_outset, StaysAt, StayFrom}
 use Rattle.crash_safety.proofs.Replaying.{makes_left}

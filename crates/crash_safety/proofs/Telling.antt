@@ -3,7 +3,7 @@ use Rattle.std.proofs.Common.{◌≡◌, ℕ, true, false, List, [], ◌∷◌, 
 use Rattle.std.specs.Prelude.{option_map, option_and_then}
 use Rattle.std.specs.List.{AllByRecursion}
 use Rattle.std.proofs.lemmas.Bool.{cases_eq, cond-true}
-use Rattle.claim_model.specs.Words.{TxnId, RequestHeader, Ruling, Envelope, EnvelopeFault, Answer, RouteKey}
+use Rattle.claim_model.specs.Words.{Advice, TxnId, RequestHeader, Ruling, Envelope, EnvelopeFault, Answer, RouteKey}
 use Rattle.claim_model.specs.Context.{Context}
 use Rattle.claim_model.specs.Laws.{Laws, Spells, AdvisesWell}
 use Rattle.claim_model.specs.declared.refusal.Refusal.{Refusal}
@@ -267,14 +267,14 @@ row_again ctx s v id a request h n row x asks reads route at d =
     let sb = book_sound ctx s v n b.0 x b.1 in
     let t = row_there ctx s v n id row x at in
     let same : row.request ≡ request = same_some row.request request (sym t.sound.asks ∙ (ap (submitted_under v) t.same ∙ asks)) in
-    let text : answer_text ctx h row.rulings ≡ a = same_some (answer_text ctx h row.rulings) a (sym (decided_routed ctx v id request h n row asks reads route at same) ∙ d) in
+    let text : answer_text ctx h row ≡ a = same_some (answer_text ctx h row) a (sym (decided_routed ctx v id request h n row asks reads route at same) ∙ d) in
     let ours : is_payer b.0.payer (payer_for ctx id h) ≡ true = ap (is_payer b.0.payer) (route ∙ ap (λ (k : ℕ). Some k) (sym sb.payer)) ∙ payer_self b.0.payer in
     let known : Rattle.std.specs.Prelude.bytes_eq row.request request ≡ true = ap (λ (q : List ℕ). Rattle.std.specs.Prelude.bytes_eq q request) same ∙ bytes_self request in
     From_row request h n b.0 asks reads route b.1
     (λ advice. ap (answered_readable ctx b.0 advice id request) reads
     ∙ (cond-true (is_payer b.0.payer (payer_for ctx id h)) (answered_by ctx b.0 advice id request h (row_of id b.0.rows)) (Err Refusal.NotOurs) ours
     ∙ (ap (answered_by ctx b.0 advice id request h) b.2
-    ∙ (cond-true (Rattle.std.specs.Prelude.bytes_eq row.request request) (Ok (record { book = b.0; bytes = answer_text ctx h row.rulings; kept = true })) (Err Refusal.NumberReused) known
+    ∙ (cond-true (Rattle.std.specs.Prelude.bytes_eq row.request request) (Ok (record { book = b.0; bytes = answer_text ctx h row; kept = true })) (Err Refusal.NumberReused) known
     ∙ ap (λ (y : List ℕ). Ok (record { book = b.0; bytes = y; kept = true })) text))))
 
 again_by : (ctx : Context) (s : WorldSettings) (v : World) (id : TxnId) (a : List ℕ) → Sound ctx s v → decided ctx v id ≡ Some a → (o : Origin ctx v id a) → From ctx v id o.header o.rulings → ComesAgain ctx v id a
@@ -369,18 +369,18 @@ other_rulings ctx h g rs qs x y a b e =
     let same : a.answer ≡ b.answer = same_some a.answer b.answer (sym a.reads ∙ (ap ctx.read_answer e ∙ b.reads)) in
     sym a.rulings_are ∙ (ap (λ (z : Answer). z.rulings) same ∙ b.rulings_are)
 
-new_answer : (ctx : Context) (s : WorldSettings) (w : World) (id : TxnId) (request : List ℕ) (h : RequestHeader) (b : Book) (advice : List Ruling) (a : Answered) → AdvisesWell advice → Reached ctx s w → readable ctx request ≡ Some h → row_of id b.rows ≡ None → book_at w b.payer ≡ Some b
+new_answer : (ctx : Context) (s : WorldSettings) (w : World) (id : TxnId) (request : List ℕ) (h : RequestHeader) (b : Book) (advice : Advice) (a : Answered) → AdvisesWell advice.rulings → Reached ctx s w → readable ctx request ≡ Some h → row_of id b.rows ≡ None → book_at w b.payer ≡ Some b
     → (r : Ruled_on ctx b advice id request a) → Rows ctx b advice id request r.header a → ((new_row ctx b advice id request).rulings ≡ bad_bins h → ⊥) → a.bytes ≡ rejection ctx h → ⊥
 new_answer ctx s w id request h b advice a well reached reads none at r (Known row found same book text) other e = let wrong : ◌≡◌ {A = Option Row} None (Some row) = sym none ∙ found in absurd cc
 new_answer ctx s w id request h b advice a well reached reads none at r (New fresh fits advised book text) other e =
     let row = new_row ctx b advice id request in
     let sb = book_sound ctx s w b.payer b (reached_sound ctx s w reached) at in
     let written = new_row_written ctx s w b.payer b advice id request r.header well reached.laws reached.accepts sb r.reads fits in
-    let spells = row_spells ctx request r.header row.rulings reached.laws r.reads written.0 written.1 in
+    let spells = row_spells ctx request r.header row reached.laws r.reads written.0 written.1 in
     let fixed = rejection_spells ctx request h reached.laws reads in
-    other (other_rulings ctx r.header h row.rulings (bad_bins h) (answer_text ctx r.header row.rulings) (rejection ctx h) spells fixed (sym text ∙ e))
+    other (other_rulings ctx r.header h row.rulings (bad_bins h) (answer_text ctx r.header row) (rejection ctx h) spells fixed (sym text ∙ e))
 
-pub another_answer : (ctx : Context) (s : WorldSettings) (route : ℕ → RouteKey → Option ℕ) (w : World) (id : TxnId) (request : List ℕ) (h : RequestHeader) (b : Book) (advice : List Ruling) (a : Answered) → AdvisesWell advice → Reached (rerouted ctx route) s w
+pub another_answer : (ctx : Context) (s : WorldSettings) (route : ℕ → RouteKey → Option ℕ) (w : World) (id : TxnId) (request : List ℕ) (h : RequestHeader) (b : Book) (advice : Advice) (a : Answered) → AdvisesWell advice.rulings → Reached (rerouted ctx route) s w
     → IsAsked ctx w id request h → row_of id b.rows ≡ None → book_at w b.payer ≡ Some b → answered (rerouted ctx route) b advice id request ≡ Ok a
     → ((new_row (rerouted ctx route) b advice id request).rulings ≡ bad_bins h → ⊥) → a.bytes ≡ rejection ctx h → ⊥
 another_answer ctx s route w id request h b advice a well reached x none at is other e =

@@ -1,5 +1,5 @@
 -- A network whose settings grow while it runs: its nodes go over one by one, each at a moment of its own, and die at any.
-use Rattle.std.specs.Prelude.{◌≡◌, ◌≤◌, ◌⊎◌, ⊤, ℕ, zero, suc, cond, List, [], ◌∷◌, ◌++◌, Option, Some, None}
+use Rattle.std.specs.Prelude.{◌≤◌, ◌⊎◌, ⊤, ℕ, zero, suc, cond, List, [], ◌∷◌, ◌++◌, Option, Some, None}
 use Rattle.claim_model.specs.Context.{Context}
 use Rattle.claim_model.specs.Laws.{Laws}
 use Rattle.claim_model.specs.Node.{Node, Pharmacy}

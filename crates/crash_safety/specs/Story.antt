@@ -42,7 +42,8 @@ small route = record {
   route = λ number key. route;
   price = λ plan claim. None;
   reprice = λ plan change. Ok plan;
-  answer = λ h status rulings. letter status;
+  answer = λ h status rulings carried. letter status;
+  carried = λ request rulings said. [];
   read_answer = λ bytes. Some (record { header = small_response; rulings = [] });
   read_advice = λ bytes. Some (record { header = small_response; rulings = [] });
   envelope = λ e. kind_number e.kind ∷ e.id.pharmacy ∷ e.id.number ∷ e.payload;
@@ -54,7 +55,7 @@ abbrev pub small_world : Plan → WorldSettings
 small_world plan = record {
   pharmacies = record { qualifier = []; provider = []; nodes = 1 ∷ []; again = 1; tries = 1; cap = 2 } ∷ [];
   switches = 1 ∷ [];
-  payers = record { book = record { serial = 1; cap = 2; asks = false }; plan = plan } ∷ [];
+  payers = record { book = record { serial = 1; cap = 2; asks = false; reversals = false; carries = false }; plan = plan } ∷ [];
 }
 
 -- no route yet: submitted, taken by the switch, its rejection heard, and told

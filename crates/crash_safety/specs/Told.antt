@@ -1,6 +1,6 @@
 -- Answers that a pharmacy tells a caller before it keeps them.
 use Rattle.std.specs.Prelude.{◌≡◌, ℕ, true, List, [], ◌∷◌, ◌++◌, replicate, Option, Some, None, Ok}
-use Rattle.claim_model.specs.Words.{TxnId, RequestHeader, Ruling, Rejected, BadBin, RouteKey}
+use Rattle.claim_model.specs.Words.{Advice, TxnId, RequestHeader, Ruling, Rejected, BadBin, RouteKey}
 use Rattle.claim_model.specs.Context.{Context}
 use Rattle.claim_model.specs.Laws.{Laws}
 use Rattle.claim_model.specs.Readable.{readable, payer_for, rejection}
@@ -30,7 +30,7 @@ pub record IsTold (n : Network) (id : TxnId) (a : List ℕ) : Type 0 where
 -- or it is the fixed rejection of a request without a route, which any switch gives
 pub data ComesAgain (ctx : Context) (w : World) (id : TxnId) (a : List ℕ) : Type 0 where
   From_row : (request : List ℕ) → (h : RequestHeader) → (payer : ℕ) → (b : Book) → asked w id ≡ Some request → readable ctx request ≡ Some h → payer_for ctx id h ≡ Some payer → book_at w payer ≡ Some b
-      → ((advice : List Ruling) → answered ctx b advice id request ≡ Ok (record { book = b; bytes = a; kept = true })) → ComesAgain ctx w id a
+      → ((advice : Advice) → answered ctx b advice id request ≡ Ok (record { book = b; bytes = a; kept = true })) → ComesAgain ctx w id a
   Fixed : (request : List ℕ) → (h : RequestHeader) → asked w id ≡ Some request → readable ctx request ≡ Some h → payer_for ctx id h ≡ None → a ≡ rejection ctx h → ComesAgain ctx w id a
 
 -- this is the answer for good

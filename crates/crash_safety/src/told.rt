@@ -1,7 +1,7 @@
 //! What a pharmacy tells before it keeps it.
 
 ghost use Rattle.std.specs.Prelude.{◌≡◌, ℕ, List, Option, Some, None, Ok};
-ghost use Rattle.claim_model.specs.Words.{TxnId, RequestHeader, Plan, RouteKey, Ruling};
+ghost use Rattle.claim_model.specs.Words.{Advice, TxnId, RequestHeader, Plan, RouteKey, Ruling};
 ghost use Rattle.claim_model.specs.Context.{Context};
 ghost use Rattle.claim_model.specs.Laws.{Laws, AdvisesWell};
 ghost use Rattle.claim_model.specs.Readable.{payer_for, rejection, route_key};
@@ -41,7 +41,7 @@ pub fn told_rejections_do_not()
         → route id.number (route_key h) ≡ Some payer → row_at w payer id ≡ None
         → (decided ctx w id ≡ Some (rejection ctx h)) × (decided (rerouted ctx route) w id ≡ None) }
     ensures another { (ctx : Context) (s : WorldSettings) (route : ℕ → RouteKey → Option ℕ) (w : World) (id : TxnId)
-        (request : List ℕ) (h : RequestHeader) (b : Book) (advice : List Ruling) (a : Answered) → AdvisesWell advice
+        (request : List ℕ) (h : RequestHeader) (b : Book) (advice : Advice) (a : Answered) → AdvisesWell advice.rulings
         → Reached (rerouted ctx route) s w
         → IsAsked ctx w id request h → Rattle.claim_model.specs.Book.row_of id b.rows ≡ None
         → Rattle.claim_model.specs.Held.book_at w b.payer ≡ Some b

@@ -13,14 +13,14 @@ use Rattle.claim_model.specs.Readable.{readable}
 use Rattle.claim_model.specs.Ruled.{Ruled, ruled}
 use Rattle.claim_model.specs.Payments.{Payment, payments, is_standing, standing}
 use Rattle.claim_model.specs.Rows.{Row, Book, ruled_rows}
-use Rattle.claim_model.specs.Judgement.{Judged, Unpriced, ToPrice, judged, judged_claim, judged_reversal, same_claim, is_for, standing_for, payment_to_reverse, Pays, Rejects, is_paid, next_serial, next_auth, priced}
+use Rattle.claim_model.specs.Judgement.{Judged, Unpriced, ToPrice, ToReverse, asks_reversals, Allows, Denies, judged, judged_claim, judged_reversal, same_claim, is_for, standing_for, payment_to_reverse, Pays, Rejects, is_paid, next_serial, next_auth, priced}
 use Rattle.claim_model.specs.Book.{serial_fits}
 use Rattle.claim_model.proofs.BytesLaws.{readable_alike}
 use Rattle.claim_model.proofs.Lists.{all_append, all_filter, find_all}
 use Rattle.claim_model.proofs.Written.{IsWritten, RuledWritten, payments_written, only_all, MayPay, rows_written}
 use Rattle.payer_book.specs.Books.{reading}
-use Rattle.payer_book.specs.Added.{with_row}
-use Rattle.payer_book.specs.Following.{MayReject, FollowsRules, AllFollow, RowStands}
+use Rattle.payer_book.specs.Added.{row_saying, with_row}
+use Rattle.payer_book.specs.Following.{MayReject, MayDeny, FollowsRules, AllFollow, RowStands}
 use Rattle.vouched_runs.specs.Agreeing.{RulesGive, RulesGiveAll, IsNextRow, AreNextRows}
 
 -- ---- what follows the rules is what they give
@@ -29,6 +29,8 @@ rule_gives : (b : Book) (before : List Ruled) (j : Judged) (r : Ruling) → Foll
 rule_gives b before (Unpriced settled) r f = f
 rule_gives b before (ToPrice c) r (inl e) = (Rejects e.0, e.2)
 rule_gives b before (ToPrice c) r (inr p) = (Pays p.0, p.2)
+rule_gives b before (ToReverse auth v) r (inl e) = (Denies e.0, e.2)
+rule_gives b before (ToReverse auth v) r (inr p) = (Allows, p)
 
 rules_give : (b : Book) (before : List Ruled) (id : TxnId) (place : ℕ) (orders : List (Result Order (List Code))) (rulings : List Ruling) → AllFollow b before id place orders rulings → RulesGiveAll b before id place orders rulings
 rules_give b before id place [] [] f = tt
@@ -46,6 +48,10 @@ codes_written : (asks : Bool) (codes : List Code) → MayReject asks codes → I
 codes_written true codes m = m
 codes_written false codes m = subst IsRejects (sym m) (one_code _ refl)
 
+denials_written : (asks : Bool) (codes : List Code) → MayDeny asks codes → IsRejects codes
+denials_written true codes m = m
+denials_written false codes m = absurd m
+
 claim_written : (b : Book) (before : List Ruled) (h : RequestHeader) (c : Claim) (o : Option Payment) (r : Ruling) → MayPay b → IsClaimOf h c → ((p : Payment) → o ≡ Some p → IsWritten p)
     → FollowsRules b before (judged_claim c o) r → serial_fits r ≡ true → IsRuling r
 claim_written b before h c None r may of_it w (inl e) s = subst IsRuling (sym e.2) (codes_written b.settings.asks e.0 e.1)
@@ -60,7 +66,8 @@ claim_written b before h c (Some p) r may of_it w f s = by_test (same_claim p.cl
 
 reversal_written : (b : Book) (before : List Ruled) (v : Reversal) (o : Option Payment) (r : Ruling) → IsPrescription v.prescription → ((p : Payment) → o ≡ Some p → IsWritten p) → FollowsRules b before (judged_reversal v o) r → IsRuling r
 reversal_written b before v None r n w f = subst IsRuling (sym f) (one_code _ refl)
-reversal_written b before v (Some p) r n w f = subst IsRuling (sym f) ((w p refl).0, n)
+reversal_written b before v (Some p) r n w (inl e) = subst IsRuling (sym e.2) (denials_written (asks_reversals b.settings) e.0 e.1)
+reversal_written b before v (Some p) r n w (inr e) = subst IsRuling (sym e) ((w p refl).0, n)
 
 one_written : (b : Book) (before : List Ruled) (h : RequestHeader) (order : Result Order (List Code)) (r : Ruling) → MayPay b → AllByRecursion RuledWritten before → IsOrderOf h order → FollowsRules b before (judged before order) r → serial_fits r ≡ true
     → IsRuling r
@@ -90,6 +97,7 @@ gives_alike b after before (Unpriced settled) r payer settings g = g
 gives_alike b after before (ToPrice c) r payer settings g =
     let same : next_auth b before ≡ next_auth after before = λ i. record { payer = sym payer i; serial = (sym settings i).serial + count_by (λ (x : Ruled). is_paid x.ruling) before } in
     (g.0, g.1 ∙ ap (λ (a : Auth). priced a c (Some g.0)) same)
+gives_alike b after before (ToReverse auth v) r payer settings g = g
 
 all_alike : (b after : Book) (before : List Ruled) (id : TxnId) (place : ℕ) (orders : List (Result Order (List Code))) (rulings : List Ruling) → after.payer ≡ b.payer → after.settings ≡ b.settings
     → RulesGiveAll b before id place orders rulings → RulesGiveAll after before id place orders rulings
@@ -127,7 +135,7 @@ module _ (routes : RouteMaps) where
   pub stands_next : Laws (bytes_with routes) → (b : Book) (id : TxnId) (request answer : List ℕ) (after : Book) → MayPay b → RowStands b id request answer after → AreNextRows (bytes_with routes) b [] b.rows
       → AreNextRows (bytes_with routes) after [] after.rows
   stands_next laws b id request answer after may x o =
-      let row : Row = record { id = id; request = request; rulings = x.rulings } in
+      let row : Row = row_saying b id request x.rulings answer in
       let more : Book = with_row b row in
       let reads : readable (bytes_with routes) request ≡ Some x.header = readable_alike routes request ∙ x.reads in
       let before : AllByRecursion RuledWritten (ruled_rows (bytes_with routes) b.rows) = rows_written (bytes_with routes) b.rows (rulings_are_written b [] b.rows o) in

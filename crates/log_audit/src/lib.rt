@@ -1,5 +1,5 @@
 //! The audit of logs: whether the logs of all nodes are those of one legal run, and what that run left; or why they are
-//! not. The words of the command line, the exit statuses and the lines for standard error stand here too.
+//! not.
 #![tactic(auto)]
 
 mod alone;

@@ -94,8 +94,8 @@ prices_self : (a : List (List ℕ × ℕ)) → same_prices a a ≡ true
 prices_self [] = refl
 prices_self (p ∷ a) = both (bytes_eq p.0 p.0 && (p.1 == p.1)) (same_prices a a) (both (bytes_eq p.0 p.0) (p.1 == p.1) (bytes_self p.0) (nat_self p.1)) (prices_self a)
 
-abbrev opened : ℕ → ℕ → Bool → ℕ → ℕ → List (List ℕ × ℕ) → PayerSettings
-opened serial cap asks fee copay prices = record { book = record { serial = serial; cap = cap; asks = asks }; plan = record { fee = fee; copay = copay; prices = prices } }
+abbrev opened : ℕ → ℕ → Bool → Bool → Bool → ℕ → ℕ → List (List ℕ × ℕ) → PayerSettings
+opened serial cap asks reversals carries fee copay prices = record { book = record { serial = serial; cap = cap; asks = asks; reversals = reversals; carries = carries }; plan = record { fee = fee; copay = copay; prices = prices } }
 
 asks_same : (a b : Bool) → beq a b ≡ true → a ≡ b
 asks_same true true e = refl
@@ -113,16 +113,20 @@ pub payer_to : (a b : PayerSettings) → payer_grows a b ≡ true → PayerGrows
 payer_to a b e =
     let s = and_parts (a.book.serial == b.book.serial) _ e in
     let k = and_parts (beq a.book.asks b.book.asks) _ s.1 in
-    let c = and_parts (nat_le a.book.cap b.book.cap) _ k.1 in
+    let v = and_parts (beq a.book.reversals b.book.reversals) _ k.1 in
+    let w = and_parts (beq a.book.carries b.book.carries) _ v.1 in
+    let c = and_parts (nat_le a.book.cap b.book.cap) _ w.1 in
     let f = and_parts (a.plan.fee == b.plan.fee) _ c.1 in
     let p = and_parts (a.plan.copay == b.plan.copay) _ f.1 in
+    let serial : b.book.serial ≡ a.book.serial = sym (nat_same a.book.serial b.book.serial s.0) in
+    let asks : b.book.asks ≡ a.book.asks = sym (asks_same a.book.asks b.book.asks k.0) in
+    let reversals : b.book.reversals ≡ a.book.reversals = sym (asks_same a.book.reversals b.book.reversals v.0) in
+    let carries : b.book.carries ≡ a.book.carries = sym (asks_same a.book.carries b.book.carries w.0) in
+    let fee : b.plan.fee ≡ a.plan.fee = sym (nat_same a.plan.fee b.plan.fee f.0) in
+    let copay : b.plan.copay ≡ a.plan.copay = sym (nat_same a.plan.copay b.plan.copay p.0) in
+    let prices : b.plan.prices ≡ a.plan.prices = prices_same a.plan.prices b.plan.prices p.1 in
     record {
-      same =
-          ap (λ (x : ℕ). opened x b.book.cap b.book.asks b.plan.fee b.plan.copay b.plan.prices) (sym (nat_same a.book.serial b.book.serial s.0))
-          ∙ (ap (λ (x : Bool). opened a.book.serial b.book.cap x b.plan.fee b.plan.copay b.plan.prices) (sym (asks_same a.book.asks b.book.asks k.0))
-          ∙ (ap (λ (x : ℕ). opened a.book.serial b.book.cap a.book.asks x b.plan.copay b.plan.prices) (sym (nat_same a.plan.fee b.plan.fee f.0))
-          ∙ (ap (λ (x : ℕ). opened a.book.serial b.book.cap a.book.asks a.plan.fee x b.plan.prices) (sym (nat_same a.plan.copay b.plan.copay p.0))
-          ∙ ap (λ (xs : List (List ℕ × ℕ)). opened a.book.serial b.book.cap a.book.asks a.plan.fee a.plan.copay xs) (prices_same a.plan.prices b.plan.prices p.1))));
+      same = λ i. opened (serial i) b.book.cap (asks i) (reversals i) (carries i) (fee i) (copay i) (prices i);
       cap = at_most a.book.cap b.book.cap c.0;
     }
 
@@ -130,10 +134,12 @@ pub payer_from : (a b : PayerSettings) → PayerGrows a b → payer_grows a b �
 payer_from a b g =
     both (a.book.serial == b.book.serial) _ (same_number a.book.serial b.book.serial (ap (λ (x : PayerSettings). x.book.serial) g.same))
     (both (beq a.book.asks b.book.asks) _ (asks_self a.book.asks b.book.asks (ap (λ (x : PayerSettings). x.book.asks) g.same))
+    (both (beq a.book.reversals b.book.reversals) _ (asks_self a.book.reversals b.book.reversals (ap (λ (x : PayerSettings). x.book.reversals) g.same))
+    (both (beq a.book.carries b.book.carries) _ (asks_self a.book.carries b.book.carries (ap (λ (x : PayerSettings). x.book.carries) g.same))
     (both (nat_le a.book.cap b.book.cap) _ (is_at_most a.book.cap b.book.cap g.cap)
     (both (a.plan.fee == b.plan.fee) _ (same_number a.plan.fee b.plan.fee (ap (λ (x : PayerSettings). x.plan.fee) g.same))
     (both (a.plan.copay == b.plan.copay) _ (same_number a.plan.copay b.plan.copay (ap (λ (x : PayerSettings). x.plan.copay) g.same))
-    (ap (same_prices a.plan.prices) (ap (λ (x : PayerSettings). x.plan.prices) g.same) ∙ prices_self a.plan.prices)))))
+    (ap (same_prices a.plan.prices) (ap (λ (x : PayerSettings). x.plan.prices) g.same) ∙ prices_self a.plan.prices)))))))
 
 -- all nodes
 

@@ -31,8 +31,9 @@ same_prices (p ∷ old) (q ∷ new) = (bytes_eq p.0 q.0 && (p.1 == q.1)) && same
 -- the same payer, whose book may have as many rows or more
 abbrev pub payer_grows : PayerSettings → PayerSettings → Bool
 payer_grows old new =
-    (old.book.serial == new.book.serial) && (beq old.book.asks new.book.asks && (nat_le old.book.cap new.book.cap && ((old.plan.fee == new.plan.fee)
-    && ((old.plan.copay == new.plan.copay) && same_prices old.plan.prices new.plan.prices))))
+    (old.book.serial == new.book.serial) && (beq old.book.asks new.book.asks && (beq old.book.reversals new.book.reversals
+    && (beq old.book.carries new.book.carries && (nat_le old.book.cap new.book.cap && ((old.plan.fee == new.plan.fee) && ((old.plan.copay == new.plan.copay)
+    && same_prices old.plan.prices new.plan.prices))))))
 
 -- the number of the first node, from this one on, that is not there any more or has not grown
 abbrev pub first_other : {A : Type 0} → (A → A → Bool) → ℕ → List A → List A → Option ℕ

@@ -28,6 +28,8 @@ fn payer_grows(old: &PayerSettings, new: &PayerSettings) -> bool
 {
     old.book.serial() == new.book.serial()
         && old.book.asks() == new.book.asks()
+        && old.book.reversals() == new.book.reversals()
+        && old.book.carries() == new.book.carries()
         && old.book.cap() <= new.book.cap()
         && old.plan.fee() == new.plan.fee()
         && old.plan.copay() == new.plan.copay()

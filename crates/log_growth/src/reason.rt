@@ -68,8 +68,11 @@ fn of_payer(old: &PayerSettings, new: &PayerSettings) -> &'static str {
     if old.book.serial() != new.book.serial() {
         return "has another serial";
     }
-    if old.book.asks() != new.book.asks() {
+    if old.book.asks() != new.book.asks() || old.book.reversals() != new.book.reversals() {
         return "has another asks";
+    }
+    if old.book.carries() != new.book.carries() {
+        return "has other answers";
     }
     of_plan(&old.plan, &new.plan)
 }

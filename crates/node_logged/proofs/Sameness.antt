@@ -12,8 +12,8 @@ same_pharmacy a b q p n g t c = λ i. record { qualifier = q i; provider = p i; 
 pub same_plan : (a b : Terms) → a.fee ≡ b.fee → a.copay ≡ b.copay → a.prices ≡ b.prices → a ≡ b
 same_plan a b f c p = λ i. record { fee = f i; copay = c i; prices = p i }
 
-pub same_payer : (a b : PayerSettings) → a.book.serial ≡ b.book.serial → a.book.cap ≡ b.book.cap → a.book.asks ≡ b.book.asks → a.plan ≡ b.plan → a ≡ b
-same_payer a b s c k p = λ i. record { book = record { serial = s i; cap = c i; asks = k i }; plan = p i; keys = tt }
+pub same_payer : (a b : PayerSettings) → a.book.serial ≡ b.book.serial → a.book.cap ≡ b.book.cap → a.book.asks ≡ b.book.asks → a.book.reversals ≡ b.book.reversals → a.book.carries ≡ b.book.carries → a.plan ≡ b.plan → a ≡ b
+same_payer a b s c k v w p = λ i. record { book = record { serial = s i; cap = c i; asks = k i; reversals = v i; carries = w i }; plan = p i; keys = tt }
 
 pub same_row : (a b : Row) → a.bin ≡ b.bin → a.pcn ≡ b.pcn → a.providers ≡ b.providers → a.payer ≡ b.payer → a.rejected ≡ b.rejected → a ≡ b
 same_row a b n p r y j = λ i. record { bin = n i; pcn = p i; providers = r i; payer = y i; rejected = j i }

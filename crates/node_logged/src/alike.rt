@@ -71,6 +71,8 @@ impl Alike for PayerSettings {
         self.book.serial() == other.book.serial()
             && self.book.cap() == other.book.cap()
             && self.book.asks() == other.book.asks()
+            && self.book.reversals() == other.book.reversals()
+            && self.book.carries() == other.book.carries()
             && is_same_plan(&self.plan, &other.plan)
     }
 }

@@ -20,7 +20,7 @@ use Rattle.claim_model.specs.Book.{serial_fits, last_serial}
 use Rattle.payer_book.specs.declared.book.PaymentView.{PaymentView}
 use Rattle.payer_book.specs.Books.{reading}
 use Rattle.payer_book.specs.Views.{payment_view, payment_in}
-use Rattle.payer_book.specs.Added.{KeptRow, kept_row, with_row, without_rows, added, added_all}
+use Rattle.payer_book.specs.Added.{row_saying, KeptRow, kept_row, with_row, without_rows, added, added_all}
 use Rattle.payer_book.specs.Following.{FollowsRules, AllFollow, RowStands}
 use Rattle.node_service.specs.declared.payments.NodePayment.{NodePayment}
 use Rattle.node_service.specs.Payments.{booked_payment, ruling_payment, row_payments, book_payments}
@@ -89,7 +89,8 @@ claim_step b before n c r (Some p) is f = by_test (same_claim p.claim c) f
 
 reversal_step : (b : Book) (before : List Ruled) (n : ℕ) (v : Reversal) (r : Ruling) (o : Option Payment) → FollowsRules b before (judged_reversal v o) r → Step b.payer n (Ok (Reverses v)) r
 reversal_step b before n v r None f = subst (λ (x : Ruling). Step b.payer n (Ok (Reverses v)) x) (sym f) (inl (refl, (refl, refl)))
-reversal_step b before n v r (Some p) f = subst (λ (x : Ruling). Step b.payer n (Ok (Reverses v)) x) (sym f) (inl (refl, (refl, refl)))
+reversal_step b before n v r (Some p) (inl e) = subst (λ (x : Ruling). Step b.payer n (Ok (Reverses v)) x) (sym e.2) (inl (refl, (refl, refl)))
+reversal_step b before n v r (Some p) (inr e) = subst (λ (x : Ruling). Step b.payer n (Ok (Reverses v)) x) (sym e) (inl (refl, (refl, refl)))
 
 step_of : (b : Book) (before : List Ruled) (n : ℕ) (order : Result Order (List Code)) (r : Ruling) → b.settings.serial + count_paid before ≡ n → FollowsRules b before (judged before order) r → Step b.payer n order r
 unfolding judged
@@ -191,7 +192,7 @@ RowsFollow = (b : Book) (id : TxnId) (request answer : List ℕ) (after : Book) 
 
 one_more : (b : Book) (id : TxnId) (request answer : List ℕ) (after : Book) → RowStands b id request answer after → IsGood b → IsGood after
 one_more b id request answer after s g =
-    let row : Row = record { id = id; request = request; rulings = s.rulings } in
+    let row : Row = row_saying b id request s.rulings answer in
     let own : Good b.payer (b.settings.serial + count_paid (ruled_rows reading b.rows)) (ruled_row reading row) s.rulings =
     row_good b (ruled_rows reading b.rows) id 1 (reading.orders request) s.rulings (b.settings.serial + count_paid (ruled_rows reading b.rows)) refl s.fit s.follow in
     let all = good_more b.payer b.settings.serial (ruled_rows reading b.rows) (flat_map rulings_of b.rows) (ruled_row reading row) s.rulings g own in

@@ -3,7 +3,7 @@ use Rattle.std.specs.Prelude.{◌≡◌, ◌≢◌, ℕ, List, Result, Ok, Err}
 use Rattle.std.proofs.Common.{ap}
 use Rattle.envelope.specs.Envelope.{Opened}
 use Rattle.bin_routes.specs.Table.{RouteMaps}
-use Rattle.claim_model.specs.Words.{EnvelopeFault, Ruling}
+use Rattle.claim_model.specs.Words.{Advice, EnvelopeFault}
 use Rattle.claim_model.specs.Bytes.{bytes_with, envelope_in}
 use Rattle.claim_model.specs.declared.refusal.Refusal.TheVariants.{NoEnvelope, Unreadable}
 use Rattle.claim_model.specs.Rows.{Book}
@@ -42,14 +42,14 @@ switch_requests routes table envelope = after_request envelope.id (requested (by
 abbrev pub switch_responds : RouteMaps → Table → Opened → Outcome (Power Table ℕ)
 switch_responds routes table envelope = after_response envelope.id (responded (bytes_with routes) table (content envelope))
 
--- a payer takes it, with the rulings of an advice, and answers to the node that it came from
-abbrev pub payer_advised : RouteMaps → Book → List Ruling → Node → Opened → Outcome (Power Book Book)
+-- a payer takes it, with an advice, and answers to the node that it came from
+abbrev pub payer_advised : RouteMaps → Book → Advice → Node → Opened → Outcome (Power Book Book)
 payer_advised routes book advice from envelope = payer_takes (bytes_with routes) book advice from (Ok (content envelope))
 
 abbrev pub payer_handles : RouteMaps → Book → Node → Opened → Outcome (Power Book Book)
 payer_handles routes book from envelope = payer_advised routes book unadvised from envelope
 
-abbrev pub payer_answers : RouteMaps → Book → List Ruling → Node → Opened → Outcome (Power Book Book)
+abbrev pub payer_answers : RouteMaps → Book → Advice → Node → Opened → Outcome (Power Book Book)
 payer_answers routes book advice from envelope =
     after_answer (bytes_with routes) from envelope.id (answered (bytes_with routes) book advice envelope.id envelope.payload)
 
@@ -69,7 +69,7 @@ pub payer_reads : (routes : RouteMaps) (b : Book) (from : Node) (bytes : List �
 payer_reads routes b from bytes (Ok envelope) is = ap (payer_takes (bytes_with routes) b unadvised from) is
 payer_reads routes b from bytes (Err fault) is = ap (payer_takes (bytes_with routes) b unadvised from) is
 
-pub payer_opens : (routes : RouteMaps) (b : Book) (advice : List Ruling) (from : Node) (bytes : List ℕ) (read : Result Opened EnvelopeFault) → (bytes_with routes).read_envelope bytes ≡ envelope_in read
+pub payer_opens : (routes : RouteMaps) (b : Book) (advice : Advice) (from : Node) (bytes : List ℕ) (read : Result Opened EnvelopeFault) → (bytes_with routes).read_envelope bytes ≡ envelope_in read
     → payer_takes (bytes_with routes) b advice from ((bytes_with routes).read_envelope bytes) ≡ taken (payer_advised routes b advice from) read
 payer_opens routes b advice from bytes (Ok envelope) is = ap (payer_takes (bytes_with routes) b advice from) is
 payer_opens routes b advice from bytes (Err fault) is = ap (payer_takes (bytes_with routes) b advice from) is

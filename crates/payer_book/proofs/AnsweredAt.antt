@@ -2,7 +2,7 @@
 use Rattle.std.proofs.Common.{◌≡◌, ℕ, ◌<◌, Bool, false, List, [], ◌∷◌, ◌++◌, length, slice_get, Some, Ok, sym, ap, ◌∙◌, arith}
 use Rattle.std.proofs.lemmas.List.{length-append}
 use Rattle.std.proofs.lemmas.Option.{same_Some as same_some}
-use Rattle.claim_model.specs.Words.{TxnId, Ruling}
+use Rattle.claim_model.specs.Words.{Advice, TxnId}
 use Rattle.claim_model.specs.Context.{Context}
 use Rattle.claim_model.specs.Rows.{Row, Book}
 use Rattle.claim_model.specs.Book.{answered}
@@ -10,7 +10,7 @@ use Rattle.claim_model.proofs.Lists.{get_last}
 use Rattle.payer_book.specs.Added.{kept_answer, with_row}
 use Rattle.payer_book.specs.Placing.{IsAnsweredAt}
 
-module _ (ctx : Context) (b : Book) (advice : List Ruling) (id : TxnId) (request : List ℕ) where
+module _ (ctx : Context) (b : Book) (advice : Advice) (id : TxnId) (request : List ℕ) where
   -- a row that is there has the answer
   pub at_row : (after : Book) (place : ℕ) (kept : Bool) (row : Row) → place < length after.rows → slice_get after.rows place ≡ Some row
       → answered ctx b advice id request ≡ Ok (record { book = after; bytes = kept_answer row; kept = kept }) → IsAnsweredAt ctx b advice id request after place kept

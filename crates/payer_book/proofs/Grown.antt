@@ -1,26 +1,27 @@
 -- A book with one row more is again what adding its rows makes.
-use Rattle.std.proofs.Common.{◌≡◌, ℕ, ◌+◌, ◌<◌, true, List, [], ◌∷◌, ◌++◌, map, length, Option, Some, None, Result, refl, sym, ap, ◌∙◌, subst, arith, length-append}
+use Rattle.std.proofs.Common.{◌≡◌, ℕ, ◌+◌, ◌<◌, Bool, true, false, cond, List, [], ◌∷◌, ◌++◌, map, length, Option, Some, None, Result, refl, sym, ap, ◌∙◌, subst, arith, length-append}
 use Rattle.std.specs.Prelude.{option_and_then, is_none}
 use Rattle.std.specs.List.{AllByRecursion, list_all}
 use Rattle.std.proofs.lemmas.List.{map-append}
 use Rattle.bin_routes.specs.Table.{RouteMaps, routes_of}
 use Rattle.claim_profile.specs.Readable.{readable_header}
-use Rattle.claim_profile.specs.Answer.{answer_text}
+use Rattle.carried_fields.specs.Carrying.{carrying_text}
 use Rattle.claim_model.specs.Words.{TxnId, RequestHeader, AcceptedStatus, Order, Code, Ruling, Plan}
 use Rattle.claim_model.specs.Laws.{Laws, IsRuling}
+use Rattle.claim_model.specs.Readable.{readable}
 use Rattle.claim_model.specs.Numbered.{numbered}
-use Rattle.claim_model.specs.Bytes.{bytes_with}
+use Rattle.claim_model.specs.Bytes.{kept_under, bytes_with}
 use Rattle.claim_model.specs.Ruled.{Ruled, ruled}
 use Rattle.claim_model.specs.Rows.{Row, Book, ruled_rows}
-use Rattle.claim_model.specs.Judgement.{Judged, Unpriced, ToPrice, judged}
-use Rattle.claim_model.specs.Book.{row_of, serial_fits}
+use Rattle.claim_model.specs.Judgement.{Judged, Unpriced, ToPrice, ToReverse, judged}
+use Rattle.claim_model.specs.Book.{row_of, serial_fits, carries_more}
 use Rattle.claim_model.proofs.BytesLaws.{readable_alike}
 use Rattle.payer_book.specs.declared.book.payment.Payment.{Payment}
 use Rattle.payer_book.specs.declared.ruling.changes.Change.{Change}
 use Rattle.payer_book.specs.Ledger.{Ledger, standing_in}
 use Rattle.payer_book.specs.Changes.{changes_by, payments_after}
 use Rattle.payer_book.specs.Books.{reading}
-use Rattle.payer_book.specs.Added.{KeptRow, answer_under, kept_answer, kept_row, kept_ruling_of, kept_ruling, kept_rulings_from, kept_rulings, with_row, with_kept, added, added_all}
+use Rattle.payer_book.specs.Added.{KeptRow, answer_under, kept_answer, kept_row, kept_ruling_of, kept_ruling, kept_rulings_from, kept_rulings, carried_in, row_saying, with_row, with_kept, added, added_all}
 use Rattle.payer_book.specs.Made.{IsTold, MadeByAdding, IsMade}
 use Rattle.payer_book.specs.Entries.{with_plan}
 use Rattle.claim_model.proofs.Tests.{bytes_self}
@@ -36,6 +37,7 @@ ruling_alike b p before said order = by_case (judged before order)
     by_case : (j : Judged) → kept_ruling_of b before said j ≡ kept_ruling_of (with_plan b p) before said j
     by_case (Unpriced ruling) = refl
     by_case (ToPrice c) = refl
+    by_case (ToReverse auth v) = refl
 
 rulings_alike : (b : Book) (p : Plan) (before : List Ruled) (id : TxnId) (place : ℕ) (orders : List (Result Order (List Code))) (said : List Ruling) → kept_rulings_from b before id place orders said ≡ kept_rulings_from (with_plan b p) before id place orders said
 rulings_alike b p before id place [] said = refl
@@ -44,17 +46,33 @@ rulings_alike b p before id place (order ∷ orders) said =
     ap (λ (rs : List Ruling). r ∷ rs) (rulings_alike b p (before ++ ruled id place order r ∷ []) id (place + 1) orders said)
     ∙ ap (λ (x : Ruling). x ∷ kept_rulings_from (with_plan b p) (before ++ ruled id place order x ∷ []) id (place + 1) orders said) (ruling_alike b p before (numbered said place) order)
 
+-- what a row's answer carries is carried again by the answer that is kept
+carried_so : ((routes : RouteMaps) → Laws (bytes_with routes)) → (b : Book) (row : Row) (h : RequestHeader) (said : List ℕ) → readable reading row.request ≡ Some h → length row.rulings ≡ h.count → AllByRecursion IsRuling row.rulings
+    → row.carried ≡ carried_in b row.request row.rulings said → row.carried ≡ carried_in b row.request row.rulings (carrying_text h AcceptedStatus row.rulings row.carried)
+carried_so laws b row h said read count told is = by_settings (carries_more b.settings) is
+  where
+    by_settings : (t : Bool) → row.carried ≡ cond t (kept_under (readable_header row.request) row.rulings said) []
+        → row.carried ≡ cond t (kept_under (readable_header row.request) row.rulings (carrying_text h AcceptedStatus row.rulings row.carried)) []
+    by_settings true e =
+        e ∙ (sym ((laws (routes_of [])).carried_back row.request h row.rulings said read count told).again
+        ∙ ap (λ (t : List ℕ). kept_under (readable_header row.request) row.rulings (carrying_text h AcceptedStatus row.rulings t)) (sym e))
+    by_settings false e = e
+
 -- a row that follows the rules can be added from what is kept of it
 pub row_stands : ((routes : RouteMaps) → Laws (bytes_with routes)) → (b : Book) (row : Row) (h : RequestHeader) → readable_header row.request ≡ Some h → length row.rulings ≡ h.count → AllByRecursion IsRuling row.rulings
-    → row.rulings ≡ kept_rulings b row.id row.request row.rulings → list_all serial_fits row.rulings ≡ true → (plan : Plan) → with_kept (with_plan b plan) row.id row.request (kept_answer row) ≡ Some (with_row (with_plan b plan) row)
-row_stands laws b row h reads count told ruled fit plan =
-    let back = (laws (routes_of [])).answers row.request h AcceptedStatus row.rulings (readable_alike (routes_of []) row.request ∙ reads) count told tt in
-    let text : kept_answer row ≡ answer_text h AcceptedStatus row.rulings = ap (λ (o : Option RequestHeader). answer_under o row.rulings) reads in
+    → row.rulings ≡ kept_rulings b row.id row.request row.rulings → list_all serial_fits row.rulings ≡ true → (said : List ℕ) → row.carried ≡ carried_in b row.request row.rulings said → (plan : Plan) → with_kept (with_plan b plan) row.id row.request (kept_answer row) ≡ Some (with_row (with_plan b plan) row)
+row_stands laws b row h reads count told ruled fit said carried plan =
+    let read = readable_alike (routes_of []) row.request ∙ reads in
+    let back = (laws (routes_of [])).answers row.request h AcceptedStatus row.rulings row.carried read count told tt in
+    let bytes : List ℕ = carrying_text h AcceptedStatus row.rulings row.carried in
+    let text : kept_answer row ≡ bytes = ap (λ (o : Option RequestHeader). answer_under o row) reads in
     let again : row.rulings ≡ kept_rulings (with_plan b plan) row.id row.request back.answer.rulings =
     ruled ∙ (rulings_alike b plan (ruled_rows reading b.rows) row.id 1 (reading.orders row.request) row.rulings ∙ ap (kept_rulings (with_plan b plan) row.id row.request) (sym back.rulings_are)) in
-    let is : row ≡ record { id = row.id; request = row.request; rulings = kept_rulings (with_plan b plan) row.id row.request back.answer.rulings } = λ i. record { id = row.id; request = row.request; rulings = again i } in
+    let is : row ≡ row_saying (with_plan b plan) row.id row.request (kept_rulings (with_plan b plan) row.id row.request back.answer.rulings) bytes =
+    ap (λ (t : List ℕ). record { id = row.id; request = row.request; rulings = row.rulings; carried = t }) (carried_so laws b row h said read count told carried)
+    ∙ ap (λ (rs : List Ruling). row_saying (with_plan b plan) row.id row.request rs bytes) again in
     subst (λ (t : List ℕ). with_kept (with_plan b plan) row.id row.request t ≡ Some (with_row (with_plan b plan) row)) (sym text)
-    (kept_stands (with_plan b plan) row.id row.request (answer_text h AcceptedStatus row.rulings) h reads back.answer back.reads row is fit (bytes_self (answer_text h AcceptedStatus row.rulings)))
+    (kept_stands (with_plan b plan) row.id row.request bytes h reads back.answer back.reads row is fit (bytes_self bytes))
 
 -- the rows of a longer book, added
 

@@ -15,6 +15,7 @@ pub mod Numbers
 pub mod Replies
 pub mod AnsweredAt
 pub mod Told
+pub mod Carried
 pub mod Entered
 pub mod KeptRows
 pub mod Grown

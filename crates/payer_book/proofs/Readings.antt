@@ -12,10 +12,10 @@ use Rattle.payer_book.specs.Kept.{IsAnswered}
 use Rattle.payer_book.specs.Added.{answer_under, kept_answer}
 
 -- the answer that a row keeps is the answer of its row
-pub answered_row : (routes : RouteMaps) (row : Row) (answer : List ℕ) → IsAnswered row.request row.rulings answer → Some answer ≡ row_answer (bytes_with routes) row
+pub answered_row : (routes : RouteMaps) (row : Row) (answer : List ℕ) → IsAnswered row.request row.rulings row.carried answer → Some answer ≡ row_answer (bytes_with routes) row
 answered_row routes row answer is =
-    ap (λ (t : List ℕ). Some t) is.text ∙ sym (ap (option_map (λ (h : RequestHeader). answer_text (bytes_with routes) h row.rulings)) (readable_alike routes row.request ∙ is.reads))
+    ap (λ (t : List ℕ). Some t) is.text ∙ sym (ap (option_map (λ (h : RequestHeader). answer_text (bytes_with routes) h row)) (readable_alike routes row.request ∙ is.reads))
 
 -- which is the text of its rulings
-pub kept_text : (row : Row) (answer : List ℕ) → IsAnswered row.request row.rulings answer → answer ≡ kept_answer row
-kept_text row answer is = is.text ∙ sym (ap (λ (o : Option RequestHeader). answer_under o row.rulings) is.reads)
+pub kept_text : (row : Row) (answer : List ℕ) → IsAnswered row.request row.rulings row.carried answer → answer ≡ kept_answer row
+kept_text row answer is = is.text ∙ sym (ap (λ (o : Option RequestHeader). answer_under o row) is.reads)

@@ -7,26 +7,27 @@ use Rattle.std.proofs.lemmas.List.{append-nil, map-append}
 use Rattle.std.proofs.lemmas.Option.{same_Some as same_some}
 use Rattle.bin_routes.specs.Table.{RouteMaps, routes_of}
 use Rattle.claim_profile.specs.Readable.{readable_header}
-use Rattle.claim_profile.specs.Answer.{answer_text}
-use Rattle.claim_model.specs.Words.{TxnId, RequestHeader, AcceptedStatus, Amounts, Claim, Order, Code, Plan, Ruling, Paid, Duplicate, Reversed, Rejected, Answer}
-use Rattle.claim_model.specs.Laws.{Laws, IsAmounts, IsRejects, IsVerdict, AdvisesWell, IsClaimOf, IsOrderOf, IsRuling}
+use Rattle.carried_fields.specs.Carrying.{carrying_text}
+use Rattle.claim_model.specs.Words.{TxnId, Auth, RequestHeader, AcceptedStatus, Amounts, Claim, Reversal, Order, Code, Plan, Ruling, Paid, Duplicate, Reversed, Rejected, Answer}
+use Rattle.claim_model.specs.Laws.{Laws, IsAmounts, IsRejects, IsVerdict, IsConsent, AdvisesWell, IsClaimOf, IsOrderOf, IsRuling}
 use Rattle.claim_model.specs.Bytes.{bytes_with}
 use Rattle.claim_model.specs.Readable.{readable}
 use Rattle.claim_model.specs.Numbered.{numbered}
 use Rattle.claim_model.specs.Ruled.{Ruled, ruled}
 use Rattle.claim_model.specs.Rows.{Row, Book, BookSettings, ruled_rows}
-use Rattle.claim_model.specs.Judgement.{Judged, Unpriced, ToPrice, judged, next_auth, Verdict, Pays, Rejects, planned, verdict_in, priced}
+use Rattle.claim_model.specs.Judgement.{Judged, Unpriced, ToPrice, ToReverse, judged, next_auth, Verdict, Pays, Rejects, planned, verdict_in, priced, Consent, Allows, Denies, consent_in, asks_reversals, taken_back}
 use Rattle.claim_model.specs.Book.{row_of, serial_fits}
 use Rattle.claim_model.proofs.BytesLaws.{readable_alike}
+use Rattle.claim_model.proofs.Written.{consented_written}
 use Rattle.payer_book.specs.declared.book.payment.Payment.{Payment}
 use Rattle.payer_book.specs.Ledger.{Ledger, standing_in}
 use Rattle.payer_book.specs.Changes.{change_by, changes_by, payments_after}
-use Rattle.payer_book.specs.Drafts.{judged_on, amounts_in, kept_verdict, AsKept, price_at, ruling_by, rulings_on}
+use Rattle.payer_book.specs.Drafts.{judged_on, amounts_in, kept_verdict, Asking, asking_of, kept_consent, AsKept, price_at, consent_at, ruling_by, rulings_on}
 use Rattle.payer_book.specs.Books.{reading, payments_of, IsBook}
-use Rattle.payer_book.specs.Added.{KeptRow, answer_under, kept_answer, kept_row, kept_ruling_of, kept_ruling, kept_rulings_from, kept_rulings, with_row, with_answer, with_kept, added, added_all}
+use Rattle.payer_book.specs.Added.{KeptRow, answer_under, kept_answer, kept_row, kept_ruling_of, kept_ruling, kept_rulings_from, kept_rulings, carried_in, row_saying, with_row, with_answer, with_kept, added, added_all}
 use Rattle.payer_book.specs.Made.{IsTold, IsMade}
 use Rattle.payer_book.specs.Entries.{with_plan}
-use Rattle.payer_book.specs.Following.{MayReject, FollowsRules, AllFollow, RowStands, IsKeptBook, KeepsRows}
+use Rattle.payer_book.specs.Following.{MayReject, MayDeny, FollowsRules, AllFollow, RowStands, IsKeptBook, KeepsRows}
 use Rattle.claim_model.proofs.Tests.{bytes_same, nat_self}
 use Rattle.payer_book.proofs.Keeping.{rulings_by_on, get_front}
 use Rattle.payer_book.proofs.RulingLemmas.{length_rulings}
@@ -70,9 +71,24 @@ codes_follow b before c o well false is = by_amounts (amounts_in o) (λ m e. pay
     by_amounts None f = inl (Code.NotCovered ∷ [], subst (λ (t : Bool). MayReject t (Code.NotCovered ∷ [])) (sym is) refl, refl)
     by_amounts (Some m) f = inr (m, f m refl, refl)
 
+-- and of a reversal
+consent_follows : (b : Book) (before : List Ruled) (auth : Auth) (v : Reversal) (o : Option Ruling) → ((n : ℕ) (w : Verdict) → verdict_in n o ≡ Some w → IsVerdict w) → (asks : Bool) → asks_reversals b.settings ≡ asks
+    → FollowsRules b before (ToReverse auth v) (taken_back auth v (cond asks (consent_in v.prescription o) (Some Allows)))
+consent_follows b before auth v o well true is = by_consent (consent_in v.prescription o) (λ k e. consented_written v.prescription o well k e)
+  where
+    denies : (codes : List Code) → IsRejects codes → MayDeny (asks_reversals b.settings) codes
+    denies codes r = subst (λ (t : Bool). MayDeny t codes) (sym is) r
+
+    by_consent : (p : Option Consent) → ((k : Consent) → p ≡ Some k → IsConsent k) → FollowsRules b before (ToReverse auth v) (taken_back auth v p)
+    by_consent None f = inl (Code.ReversalNotProcessed ∷ [], denies (Code.ReversalNotProcessed ∷ []) (record { some = omega arith; few = omega arith; each = (refl, tt) }), refl)
+    by_consent (Some Allows) f = inr refl
+    by_consent (Some (Denies codes)) f = inl (codes, denies codes (f (Denies codes) refl), refl)
+consent_follows b before auth v o well false is = inr refl
+
 kept_follows : (b : Book) (before : List Ruled) (said : List Ruling) (place : ℕ) (j : Judged) → AdvisesWell said → FollowsRules b before j (kept_ruling_of b before (numbered said place) j)
 kept_follows b before said place (Unpriced settled) well = refl
 kept_follows b before said place (ToPrice c) well = codes_follow b before c (numbered said place) (λ claimed v e. well place claimed v e) b.settings.asks refl
+kept_follows b before said place (ToReverse auth v) well = consent_follows b before auth v (numbered said place) (λ n w e. well place n w e) (asks_reversals b.settings) refl
 
 ruling_follows : (b : Book) (before : List Ruled) (said : List Ruling) (place : ℕ) (order : Result Order (List Code)) → AdvisesWell said → FollowsRules b before (judged before order) (kept_ruling b before (numbered said place) order)
 unfolding kept_ruling
@@ -91,8 +107,9 @@ module _ (laws : (routes : RouteMaps) → Laws (bytes_with routes)) (b : Book) (
   with_stands room fresh (Some h) None reads says e = absurd cc
   with_stands room fresh (Some h) (Some said) reads says e =
       let rulings : List Ruling = kept_rulings b id request said.rulings in
-      let c = cond_some (list_all serial_fits rulings && bytes_eq (answer_text h AcceptedStatus rulings) answer) (Some (with_row b (record { id = id; request = request; rulings = rulings }))) after e in
-      let t = and_parts (list_all serial_fits rulings) (bytes_eq (answer_text h AcceptedStatus rulings) answer) c.0 in
+      let bytes : List ℕ = carrying_text h AcceptedStatus rulings (carried_in b request rulings answer) in
+      let c = cond_some (list_all serial_fits rulings && bytes_eq bytes answer) (Some (with_row b (row_saying b id request rulings answer))) after e in
+      let t = and_parts (list_all serial_fits rulings) (bytes_eq bytes answer) c.0 in
       record {
         room = room;
         fresh = fresh;
@@ -101,7 +118,7 @@ module _ (laws : (routes : RouteMaps) → Laws (bytes_with routes)) (b : Book) (
         rulings = rulings;
         follow = all_follow b (ruled_rows reading b.rows) id 1 (reading.orders request) said.rulings ((laws (routes_of [])).sayings answer said says);
         fit = t.0;
-        text = sym (bytes_same (answer_text h AcceptedStatus rulings) answer t.1);
+        text = sym (bytes_same bytes answer t.1);
         book = sym (same_some _ after c.1);
       }
 
@@ -126,6 +143,16 @@ again_one b before (ToPrice c) r (inr p) = ap (λ (x : Ruling). priced (next_aut
     by_asks : (t : Bool) → priced (next_auth b before) c (kept_verdict t c.fill.prescription (Some (Paid (next_auth b before) c.fill.prescription p.0))) ≡ Paid (next_auth b before) c.fill.prescription p.0
     by_asks true = ap (λ (t : Bool). priced (next_auth b before) c (cond t (Some (Pays p.0)) None)) (nat_self c.fill.prescription)
     by_asks false = refl
+again_one b before (ToReverse auth v) r (inl e) = ap (λ (x : Ruling). taken_back auth v (kept_consent (asking_of b.settings) v.prescription (Some x))) e.2 ∙ (by_asks (asks_reversals b.settings) e.1 ∙ sym e.2)
+  where
+    by_asks : (t : Bool) → MayDeny t e.0 → taken_back auth v (cond t (Some (Denies e.0)) (Some Allows)) ≡ Rejected e.0
+    by_asks true m = refl
+    by_asks false m = absurd m
+again_one b before (ToReverse auth v) r (inr p) = ap (λ (x : Ruling). taken_back auth v (kept_consent (asking_of b.settings) v.prescription (Some x))) p ∙ (by_asks (asks_reversals b.settings) ∙ sym p)
+  where
+    by_asks : (t : Bool) → taken_back auth v (cond t (cond (v.prescription == v.prescription) (Some Allows) None) (Some Allows)) ≡ Reversed auth v.prescription
+    by_asks true = ap (λ (t : Bool). taken_back auth v (cond t (Some Allows) None)) (nat_self v.prescription)
+    by_asks false = refl
 
 ruled_again : (b : Book) (before : List Ruled) (order : Result Order (List Code)) (r : Ruling) → FollowsRules b before (judged before order) r → kept_ruling b before (Some r) order ≡ r
 unfolding kept_ruling
@@ -149,24 +176,42 @@ may_reject : (asks : Bool) (codes : List Code) → MayReject asks codes → IsRe
 may_reject true codes m = m
 may_reject false codes m = subst IsRejects (sym m) (record { some = omega arith; few = omega arith; each = (refl, tt) })
 
+may_deny : (asks : Bool) (codes : List Code) → MayDeny asks codes → IsRejects codes
+may_deny true codes m = m
+may_deny false codes m = absurd m
+
+-- a payer that asks about all
+abbrev asks_all : Asking
+asks_all = record { asks = true; reversals = true }
+
 told_one : (b : Book) (before : List Ruled) (h : RequestHeader) (order : Result Order (List Code)) (r : Ruling) → 1 ≤ b.payer → b.payer ≤ 9999 → 1 ≤ b.settings.serial → AllByRecursion IsTold (standing_in (payments_of before))
     → IsOrderOf h order → FollowsRules b before (judged before order) r → serial_fits r ≡ true → IsRuling r
 told_one b before h order r payer payer_fits serial told of_it f fits = by_judged (judged before order) (judged_same before order) f
   where
     -- it is ruled so where an answer says this
-    said_so : (said : List Ruling) → ((c : Claim) (v : Verdict) → IsClaimOf h c → price_at (AsKept true said) 0 c ≡ Some v → IsVerdict v) → ruling_by (next_auth b before) (AsKept true said) 0 (judged_on (standing_in (payments_of before)) order) ≡ r → IsRuling r
-    said_so said verdicts same =
+    said_so : (said : List Ruling) → ((c : Claim) (v : Verdict) → IsClaimOf h c → price_at (AsKept asks_all said) 0 c ≡ Some v → IsVerdict v) → ((v : Reversal) (k : Consent) → consent_at (AsKept asks_all said) 0 v ≡ Some k → IsConsent k)
+        → ruling_by (next_auth b before) (AsKept asks_all said) 0 (judged_on (standing_in (payments_of before)) order) ≡ r → IsRuling r
+    said_so said verdicts consents same =
         subst IsRuling same
-        (settled_told (next_auth b before) payer payer_fits (omega (arith, serial)) (AsKept true said) 0 h verdicts (standing_in (payments_of before)) told order of_it (ap serial_fits same ∙ fits))
+        (settled_told (next_auth b before) payer payer_fits (omega (arith, serial)) (AsKept asks_all said) 0 h verdicts consents (standing_in (payments_of before)) told order of_it (ap serial_fits same ∙ fits))
 
     by_judged : (j : Judged) → j ≡ judged_on (standing_in (payments_of before)) order → FollowsRules b before j r → IsRuling r
-    by_judged (Unpriced given) e g = said_so [] (λ c v of_claim k. absurd cc) (ap (ruling_by (next_auth b before) (AsKept true []) 0) (sym e) ∙ sym g)
+    by_judged (Unpriced given) e g = said_so [] (λ c v of_claim k. absurd cc) (λ v k q. absurd cc) (ap (ruling_by (next_auth b before) (AsKept asks_all []) 0) (sym e) ∙ sym g)
     by_judged (ToPrice c) e (inl g) =
-        said_so (Rejected g.0 ∷ []) (λ d v of_claim k. subst IsVerdict (same_some (Rejects g.0) v k) (may_reject b.settings.asks g.0 g.1)) (ap (ruling_by (next_auth b before) (AsKept true (Rejected g.0 ∷ [])) 0) (sym e) ∙ sym g.2)
+        said_so (Rejected g.0 ∷ []) (λ d v of_claim k. subst IsVerdict (same_some (Rejects g.0) v k) (may_reject b.settings.asks g.0 g.1))
+        (λ v k q. subst IsConsent (same_some (Denies g.0) k q) (may_reject b.settings.asks g.0 g.1)) (ap (ruling_by (next_auth b before) (AsKept asks_all (Rejected g.0 ∷ [])) 0) (sym e) ∙ sym g.2)
     by_judged (ToPrice c) e (inr p) =
-        said_so (Paid (next_auth b before) c.fill.prescription p.0 ∷ []) (λ d v of_claim k. subst IsVerdict (same_some (Pays p.0) v (cond_some (c.fill.prescription == d.fill.prescription) (Some (Pays p.0)) v k).1) p.1)
-        (ap (ruling_by (next_auth b before) (AsKept true (Paid (next_auth b before) c.fill.prescription p.0 ∷ [])) 0) (sym e)
+        said_so (Paid (next_auth b before) c.fill.prescription p.0 ∷ []) (λ d v of_claim k. subst IsVerdict (same_some (Pays p.0) v (cond_some (c.fill.prescription == d.fill.prescription) (Some (Pays p.0)) v k).1) p.1) (λ v k q. absurd cc)
+        (ap (ruling_by (next_auth b before) (AsKept asks_all (Paid (next_auth b before) c.fill.prescription p.0 ∷ [])) 0) (sym e)
         ∙ (ap (λ (t : Bool). priced (next_auth b before) c (cond t (Some (Pays p.0)) None)) (nat_self c.fill.prescription) ∙ sym p.2))
+    by_judged (ToReverse auth v) e (inl g) =
+        said_so (Rejected g.0 ∷ []) (λ d w of_claim k. subst IsVerdict (same_some (Rejects g.0) w k) (may_deny (asks_reversals b.settings) g.0 g.1))
+        (λ w k q. subst IsConsent (same_some (Denies g.0) k q) (may_deny (asks_reversals b.settings) g.0 g.1)) (ap (ruling_by (next_auth b before) (AsKept asks_all (Rejected g.0 ∷ [])) 0) (sym e) ∙ sym g.2)
+    by_judged (ToReverse auth v) e (inr p) =
+        said_so (Reversed auth v.prescription ∷ []) (λ d w of_claim k. absurd cc)
+        (λ w k q. subst IsConsent (same_some Allows k (cond_some (v.prescription == w.prescription) (Some Allows) k q).1) tt)
+        (ap (ruling_by (next_auth b before) (AsKept asks_all (Reversed auth v.prescription ∷ [])) 0) (sym e)
+        ∙ (ap (λ (t : Bool). taken_back auth v (cond t (Some Allows) None)) (nat_self v.prescription) ∙ sym p))
 
 all_told : (b : Book) (before : List Ruled) (h : RequestHeader) (id : TxnId) (place : ℕ) (orders : List (Result Order (List Code))) (rulings : List Ruling) → 1 ≤ b.payer → b.payer ≤ 9999 → 1 ≤ b.settings.serial
     → AllByRecursion IsTold (standing_in (payments_of before)) → AllByRecursion (IsOrderOf h) orders → AllFollow b before id place orders rulings → list_all serial_fits rulings ≡ true → AllByRecursion IsRuling rulings
@@ -189,12 +234,12 @@ record HasLedger (b : Book) : Type 0 where
 
 module _ (laws : (routes : RouteMaps) → Laws (bytes_with routes)) where
   module _ (b : Book) (has : HasLedger b) (id : TxnId) (request : List ℕ) (h : RequestHeader) (reads : readable_header request ≡ Some h) (rulings : List Ruling)
-      (follow : AllFollow b (ruled_rows reading b.rows) id 1 (reading.orders request) rulings) (fit : list_all serial_fits rulings ≡ true) where
+      (follow : AllFollow b (ruled_rows reading b.rows) id 1 (reading.orders request) rulings) (fit : list_all serial_fits rulings ≡ true) (said : List ℕ) where
     ruled_so : rulings ≡ kept_rulings b id request rulings
     ruled_so = sym (again_from b (ruled_rows reading b.rows) id 1 (reading.orders request) rulings [] rulings refl refl follow)
 
-    ruled_on : rulings ≡ rulings_on has.ledger (AsKept b.settings.asks rulings) [] (reading.orders request)
-    ruled_on = ruled_so ∙ rulings_by_on b has.ledger has.book id request (AsKept b.settings.asks rulings) refl
+    ruled_on : rulings ≡ rulings_on has.ledger (AsKept (asking_of b.settings) rulings) [] (reading.orders request)
+    ruled_on = ruled_so ∙ rulings_by_on b has.ledger has.book id request (AsKept (asking_of b.settings) rulings) refl
 
     read_so : readable reading request ≡ Some h
     read_so = readable_alike (routes_of []) request ∙ reads
@@ -205,33 +250,34 @@ module _ (laws : (routes : RouteMaps) → Laws (bytes_with routes)) where
         (subst (λ (ps : List Payment). AllByRecursion IsTold (standing_in ps)) has.book.kept.payments has.made.told) ((laws (routes_of [])).orders request h read_so) follow fit
 
     abbrev row_so : Row
-    row_so = record { id = id; request = request; rulings = rulings }
+    row_so = row_saying b id request rulings said
 
     stands_so : (plan : Plan) → with_kept (with_plan b plan) id request (kept_answer row_so) ≡ Some (with_row (with_plan b plan) row_so)
     stands_so =
         let count : length rulings ≡ h.count =
-        ap (λ (rs : List Ruling). length rs) ruled_on ∙ (length_rulings has.ledger (AsKept b.settings.asks rulings) [] (reading.orders request) ∙ (laws (routes_of [])).groups request h read_so) in
-        row_stands laws b row_so h reads count told_so ruled_so fit
+        ap (λ (rs : List Ruling). length rs) ruled_on ∙ (length_rulings has.ledger (AsKept (asking_of b.settings) rulings) [] (reading.orders request) ∙ (laws (routes_of [])).groups request h read_so) in
+        row_stands laws b row_so h reads count told_so ruled_so fit said refl
 
   stands_added : (b : Book) (id : TxnId) (request answer : List ℕ) (after : Book) → HasLedger b → RowStands b id request answer after → added b id request answer ≡ Some after
   stands_added b id request answer after has s =
-      let text : answer ≡ kept_answer (record { id = id; request = request; rulings = s.rulings }) = s.text ∙ sym (ap (λ (o : Option RequestHeader). answer_under o s.rulings) s.reads) in
+      let row : Row = row_saying b id request s.rulings answer in
+      let text : answer ≡ kept_answer row = s.text ∙ sym (ap (λ (o : Option RequestHeader). answer_under o row) s.reads) in
       added_kept b id request answer s.room (no_row (row_of id b.rows) s.fresh)
-      ∙ (ap (with_kept b id request) text ∙ (stands_so b has id request s.header s.reads s.rulings s.follow s.fit b.plan ∙ ap (λ (x : Book). Some x) (sym s.book)))
+      ∙ (ap (with_kept b id request) text ∙ (stands_so b has id request s.header s.reads s.rulings s.follow s.fit answer b.plan ∙ ap (λ (x : Book). Some x) (sym s.book)))
 
   -- every book that was made by adding has such payments
 
   grown : (b : Book) (id : TxnId) (request answer : List ℕ) (after : Book) → HasLedger b → RowStands b id request answer after → HasLedger after
   grown b id request answer after has s =
       let l = has.ledger in
-      let row : Row = record { id = id; request = request; rulings = s.rulings } in
+      let row : Row = row_saying b id request s.rulings answer in
       let changes = changes_by (reading.orders request) s.rulings in
       let m : Ledger = record { payer = l.payer; first = l.first; payments = payments_after id l.payments changes; room = 0 } in
       subst HasLedger (sym s.book)
       (record {
         ledger = m;
-        book = book_more b l has.book row (ruled_so b has id request s.header s.reads s.rulings s.follow s.fit) m refl refl refl;
-        made = made_after b l has.made row s.room s.fresh (stands_so b has id request s.header s.reads s.rulings s.follow s.fit) (told_so b has id request s.header s.reads s.rulings s.follow s.fit)
+        book = book_more b l has.book row (ruled_so b has id request s.header s.reads s.rulings s.follow s.fit answer) m refl refl refl;
+        made = made_after b l has.made row s.room s.fresh (stands_so b has id request s.header s.reads s.rulings s.follow s.fit answer) (told_so b has id request s.header s.reads s.rulings s.follow s.fit answer)
             l m refl changes refl id (b.rows ++ row ∷ []) refl refl;
       })
 
@@ -262,8 +308,8 @@ module _ (laws : (routes : RouteMaps) → Laws (bytes_with routes)) where
 
 last_kept : (b after : Book) (id : TxnId) (request answer : List ℕ) → RowStands b id request answer after → map kept_row after.rows ≡ map kept_row b.rows ++ record { id = id; request = request; answer = answer } ∷ []
 last_kept b after id request answer s =
-    let row : Row = record { id = id; request = request; rulings = s.rulings } in
-    let text : kept_answer row ≡ answer = ap (λ (o : Option RequestHeader). answer_under o s.rulings) s.reads ∙ sym s.text in
+    let row : Row = row_saying b id request s.rulings answer in
+    let text : kept_answer row ≡ answer = ap (λ (o : Option RequestHeader). answer_under o row) s.reads ∙ sym s.text in
     ap (λ (x : Book). map kept_row x.rows) s.book
     ∙ (map-append kept_row b.rows (row ∷ []) ∙ ap (λ (t : List ℕ). let k : KeptRow = record { id = id; request = request; answer = t } in map kept_row b.rows ++ k ∷ []) text)
 

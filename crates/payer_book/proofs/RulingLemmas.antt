@@ -10,13 +10,13 @@ use Rattle.bin_routes.specs.Table.{RouteMaps}
 use Rattle.plan_rules.specs.Pricing.{paid}
 use Rattle.claim_profile.specs.declared.ruling.HeaderStatus.TheVariants.{Accepted}
 use Rattle.claim_profile.specs.Answer.{IsPrescription, IsWritable, AreWritable}
-use Rattle.claim_model.specs.Words.{TxnId, Auth, Claim, Reversal, Order, Bills, Reverses, Code, Ruling, Duplicate, Rejected, RequestHeader}
+use Rattle.claim_model.specs.Words.{Advice, TxnId, Auth, Claim, Reversal, Order, Bills, Reverses, Code, Ruling, Duplicate, Rejected, RequestHeader}
 use Rattle.claim_model.specs.Context.{Context}
 use Rattle.claim_model.specs.Laws.{IsOrderOf}
 use Rattle.claim_model.specs.Bytes.{bytes_with}
 use Rattle.claim_model.specs.Ruled.{Ruled, ruled, ruled_from}
 use Rattle.claim_model.specs.Rows.{Book}
-use Rattle.claim_model.specs.Judgement.{only, same_claim, is_paid, Judged, Unpriced, ToPrice, judged, next_auth, Verdict, Pays as PaysOut, Rejects, planned, verdict_in, verdict_of, priced, ruling_of, ruling, rulings_from, is_advised, all_advised}
+use Rattle.claim_model.specs.Judgement.{only, same_claim, is_paid, Judged, Unpriced, ToPrice, ToReverse, judged, next_auth, Verdict, Pays as PaysOut, Rejects, planned, verdict_in, verdict_of, priced, Consent, Allows, Denies, consent_in, consent_of, taken_back, ruling_of, ruling, rulings_from, is_advised, all_advised}
 use Rattle.claim_model.specs.Payments.{same_auth}
 use Rattle.payer_book.specs.declared.book.payment.Standing.{Standing}
 use Rattle.payer_book.specs.declared.book.payment.Payment.{Payment}
@@ -24,7 +24,7 @@ use Rattle.payer_book.specs.declared.ruling.changes.Change.{Change}
 use Rattle.payer_book.specs.declared.ruling.changes.Change.TheVariants.{Pays, Reverses as ReversesPayment, Keeps as KeepsAll}
 use Rattle.payer_book.specs.Ledger.{Ledger, standing_in, standing_of, is_for_payment, after_reversal, HasFillNumber}
 use Rattle.payer_book.specs.Changes.{change_by, changes_by, pays, standing_with, standing_after, payments_with, payments_after, IsPossible, ArePossible}
-use Rattle.payer_book.specs.Drafts.{claim_on, reversal_on, judged_on, Pricing, ByPlan, AsKept, pricing_of, price_at, auth_after, ruling_by, ruling_on, rulings_on, advised_by, advised_on, all_advised_on}
+use Rattle.payer_book.specs.Drafts.{claim_on, reversal_on, judged_on, Pricing, ByPlan, asking_of, AsKept, pricing_of, amounts_in, price_at, consent_at, auth_after, ruling_by, ruling_on, rulings_on, advised_by, advised_on, all_advised_on}
 use Rattle.payer_book.specs.Books.{payments_of, count_paid, Keeps, OrderNumbered}
 use Rattle.payer_book.proofs.Growth.{payments_more, standing_more, after_more, judged_same}
 use Rattle.claim_model.proofs.Tests.{auth_self}
@@ -47,7 +47,12 @@ claim_pays auth prices k c (Some s) = by_test (same_claim s.claim c)
 
 reversal_pays : (auth : Auth) (prices : Pricing) (k : ℕ) (v : Reversal) (o : Option Standing) → is_paid (ruling_by auth prices k (reversal_on v o)) ≡ pays (change_by (Ok (Reverses v)) (ruling_by auth prices k (reversal_on v o)))
 reversal_pays auth prices k v None = refl
-reversal_pays auth prices k v (Some s) = refl
+reversal_pays auth prices k v (Some s) = by_consent (consent_at prices k v)
+  where
+    by_consent : (o : Option Consent) → is_paid (taken_back s.auth v o) ≡ pays (change_by (Ok (Reverses v)) (taken_back s.auth v o))
+    by_consent None = refl
+    by_consent (Some Allows) = refl
+    by_consent (Some (Denies codes)) = refl
 
 settled_pays : (auth : Auth) (prices : Pricing) (k : ℕ) (standing : List Standing) (order : Result Order (List Code))
     → is_paid (ruling_by auth prices k (judged_on standing order)) ≡ pays (change_by order (ruling_by auth prices k (judged_on standing order)))
@@ -81,25 +86,36 @@ auth_same b l payer before changes e = let p : b.payer ≡ l.payer = sym payer i
 
 -- a book's verdicts are those of its pricing
 
-pub verdict_same : (routes : RouteMaps) (b : Book) (advice : List Ruling) (k : ℕ) (c : Claim) → verdict_of (bytes_with routes) b advice (suc k) c ≡ price_at (pricing_of b advice) k c
-verdict_same routes b advice k c = by_asks b.settings.asks
+pub verdict_same : (routes : RouteMaps) (b : Book) (advice : Advice) (k : ℕ) (c : Claim) → verdict_of (bytes_with routes) b advice (suc k) c ≡ price_at (pricing_of b advice) k c
+verdict_same routes b advice k c = by_asks b.settings.asks refl
   where
-    by_asks : (t : Bool) → cond t (verdict_in c.fill.prescription (slice_get advice k)) (Some (planned (paid b.plan c))) ≡ price_at (cond t (AsKept true advice) (ByPlan b.plan)) k c
-    by_asks true = refl
-    by_asks false = refl
+    by_asks : (t : Bool) → b.settings.asks ≡ t → cond t (verdict_in c.fill.prescription (slice_get advice.rulings k)) (Some (planned (paid b.plan c))) ≡ price_at (cond t (AsKept (asking_of b.settings) advice.rulings) (ByPlan b.plan)) k c
+    by_asks true is = ap (λ (t : Bool). cond t (verdict_in c.fill.prescription (slice_get advice.rulings k)) (Some (planned (amounts_in (slice_get advice.rulings k))))) (sym is)
+    by_asks false is = refl
 
-module _ (routes : RouteMaps) (b : Book) (l : Ledger) (payer : l.payer ≡ b.payer) (advice : List Ruling) (prices : Pricing)
-    (verdicts : (k : ℕ) (c : Claim) → verdict_of (bytes_with routes) b advice (suc k) c ≡ price_at prices k c) where
+-- and so are its consents
+pub consent_same : (b : Book) (advice : Advice) (k : ℕ) (v : Reversal) → consent_of b advice (suc k) v ≡ consent_at (pricing_of b advice) k v
+consent_same b advice k v = by_asks b.settings.asks refl
+  where
+    by_asks : (t : Bool) → b.settings.asks ≡ t → consent_of b advice (suc k) v ≡ consent_at (cond t (AsKept (asking_of b.settings) advice.rulings) (ByPlan b.plan)) k v
+    by_asks true is = refl
+    by_asks false is = ap (λ (t : Bool). cond (t && b.settings.reversals) (consent_in v.prescription (slice_get advice.rulings k)) (Some Allows)) is
+
+module _ (routes : RouteMaps) (b : Book) (l : Ledger) (payer : l.payer ≡ b.payer) (advice : Advice) (prices : Pricing)
+    (verdicts : (k : ℕ) (c : Claim) → verdict_of (bytes_with routes) b advice (suc k) c ≡ price_at prices k c)
+    (consents : (k : ℕ) (v : Reversal) → consent_of b advice (suc k) v ≡ consent_at prices k v) where
   abbrev ctx : Context
   ctx = bytes_with routes
 
   settled_same : (before : List Ruled) (auth : Auth) (k : ℕ) (j : Judged) → next_auth b before ≡ auth → ruling_of ctx b advice before (suc k) j ≡ ruling_by auth prices k j
   settled_same before auth k (Unpriced r) is = refl
   settled_same before auth k (ToPrice c) is = ap (λ (a : Auth). priced a c (verdict_of ctx b advice (suc k) c)) is ∙ ap (priced auth c) (verdicts k c)
+  settled_same before auth k (ToReverse paid_under v) is = ap (taken_back paid_under v) (consents k v)
 
   judged_advised : (k : ℕ) (j : Judged) → is_advised ctx b advice (suc k) j ≡ advised_by prices k j
   judged_advised k (Unpriced r) = refl
   judged_advised k (ToPrice c) = ap is_some (verdicts k c)
+  judged_advised k (ToReverse paid_under v) = ap is_some (consents k v)
 
   pub ruling_same : (before : List Ruled) (changes : List Change) (order : Result Order (List Code)) → standing_in (payments_of before) ≡ standing_after (standing_in l.payments) changes
       → b.settings.serial + count_paid before ≡ l.first + length l.payments + count_by pays changes → ruling ctx b advice before (suc (length changes)) order ≡ ruling_on l prices changes order
@@ -186,7 +202,12 @@ module _ (payer first : ℕ) (ps : List Payment) (auth : Auth) (next : auth ≡ 
 
   reversal_possible : (v : Reversal) (o : Option Standing) → only (filter (is_for_payment v) (standing_in ps)) ≡ o → IsPossible payer first ps (change_by (Ok (Reverses v)) (ruling_by auth prices k (reversal_on v o)))
   reversal_possible v None e = tt
-  reversal_possible v (Some s) e = some_in (λ (t : Standing). same_auth t.auth s.auth) (is_for_payment v) (standing_in ps) (only_some (filter (is_for_payment v) (standing_in ps)) s e)
+  reversal_possible v (Some s) e = by_consent (consent_at prices k v)
+    where
+      by_consent : (o : Option Consent) → IsPossible payer first ps (change_by (Ok (Reverses v)) (taken_back s.auth v o))
+      by_consent None = tt
+      by_consent (Some Allows) = some_in (λ (t : Standing). same_auth t.auth s.auth) (is_for_payment v) (standing_in ps) (only_some (filter (is_for_payment v) (standing_in ps)) s e)
+      by_consent (Some (Denies codes)) = tt
 
   settled_possible : (order : Result Order (List Code)) → OrderNumbered order → IsPossible payer first ps (change_by order (ruling_by auth prices k (judged_on (standing_in ps) order)))
   settled_possible (Err codes) number = tt
@@ -272,7 +293,12 @@ claim_writable auth prices k c (Some s) n = by_test (same_claim s.claim c)
 
 reversal_writable : (auth : Auth) (prices : Pricing) (k : ℕ) (v : Reversal) (o : Option Standing) → IsPrescription v.prescription → IsWritable (ruling_by auth prices k (reversal_on v o))
 reversal_writable auth prices k v None n = tt
-reversal_writable auth prices k v (Some s) n = n
+reversal_writable auth prices k v (Some s) n = by_consent (consent_at prices k v)
+  where
+    by_consent : (o : Option Consent) → IsWritable (taken_back s.auth v o)
+    by_consent None = tt
+    by_consent (Some Allows) = n
+    by_consent (Some (Denies codes)) = tt
 
 ruling_writable : (l : Ledger) (prices : Pricing) (changes : List Change) (h : RequestHeader) (order : Result Order (List Code)) → IsOrderOf h order → IsWritable (ruling_on l prices changes order)
 unfolding ruling_on

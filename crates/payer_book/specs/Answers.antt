@@ -1,7 +1,7 @@
 -- What a book says to a request.
 use Rattle.std.specs.Prelude.{◌≡◌, ℕ, List, Result, Ok, IfOk, IfErr}
 use Rattle.bin_routes.specs.Table.{RouteMaps}
-use Rattle.claim_model.specs.Words.{TxnId, Ruling}
+use Rattle.claim_model.specs.Words.{Advice, TxnId}
 use Rattle.claim_model.specs.Bytes.{bytes_with}
 use Rattle.claim_model.specs.declared.refusal.Fault.{Fault}
 use Rattle.claim_model.specs.Refusal.{refusal_of, IsRefused}
@@ -14,5 +14,5 @@ abbrev pub Answers : RouteMaps → Book → TxnId → List ℕ → Book → Resu
 Answers routes old id request new result = IfOk result (λ reply. answered (bytes_with routes) old unadvised id request ≡ Ok (record { book = new; bytes = reply.bytes.items; kept = reply.kept }))
 
 -- the cause for which the rule refuses it; want of memory says nothing of it
-abbrev pub Refuses : {A : Type 0} → RouteMaps → Book → List Ruling → TxnId → List ℕ → Result A Fault → Type 0
+abbrev pub Refuses : {A : Type 0} → RouteMaps → Book → Advice → TxnId → List ℕ → Result A Fault → Type 0
 Refuses routes book advice id request result = IfErr result (λ fault. IsRefused (refusal_of fault) (answered (bytes_with routes) book advice id request))

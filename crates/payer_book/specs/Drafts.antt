@@ -1,18 +1,18 @@
 -- The rulings of a request over the payments of a book, and what they change, place by place.
 use Rattle.std.specs.Prelude.{◌≡◌, ℕ, ◌+◌, ◌<◌, ◌≤◌, Bool, true, false, cond, ◌&&◌, is_some, List, [], ◌∷◌, ◌++◌, length, filter, count_by, slice_get, Option, Some, None, MatchOption, Result, Ok, Err}
 use Rattle.claim_profile.specs.declared.order_reading.OrderFault.{OrderFault}
-use Rattle.claim_model.specs.Words.{Auth, Amounts, Claim, Reversal, Order, Bills, Reverses, Code, DuplicateClaim, ReversalNotProcessed, Ruling, Paid, Duplicate, Reversed, Rejected, Plan}
-use Rattle.claim_model.specs.Judgement.{same_claim, only, Judged, Unpriced, ToPrice, Verdict, Pays, Rejects, planned, verdict_in, priced}
+use Rattle.claim_model.specs.Words.{Advice, Auth, Amounts, Claim, Reversal, Order, Bills, Reverses, Code, DuplicateClaim, ReversalNotProcessed, Ruling, Paid, Duplicate, Reversed, Rejected, Plan}
+use Rattle.claim_model.specs.Judgement.{same_claim, only, Judged, Unpriced, ToPrice, ToReverse, Verdict, Pays, Rejects, planned, verdict_in, priced, Consent, Allows, Denies, consent_in, taken_back}
 use Rattle.plan_rules.specs.Pricing.{paid}
 use Rattle.payer_book.specs.declared.book.payment.Standing.{Standing}
 use Rattle.payer_book.specs.declared.ruling.changes.Change.{Change}
 use Rattle.claim_model.specs.Bytes.{order_in}
-use Rattle.claim_model.specs.Rows.{Book}
+use Rattle.claim_model.specs.Rows.{BookSettings, Book}
 use Rattle.claim_model.specs.Book.{serial_fits, last_serial}
 use Rattle.std.specs.List.{list_all}
 use Rattle.payer_book.specs.declared.ruling.drafting.Draft.{Draft}
 use Rattle.payer_book.specs.declared.ruling.judging.Verdict.{Verdict as Judgement}
-use Rattle.payer_book.specs.declared.ruling.judging.Verdict.TheVariants.{Unpriced as IsUnpriced, ToPrice as IsToPrice}
+use Rattle.payer_book.specs.declared.ruling.judging.Verdict.TheVariants.{Unpriced as IsUnpriced, ToPrice as IsToPrice, ToReverse as IsToReverse}
 use Rattle.payer_book.specs.declared.ruling.pricing.Prices.{Prices}
 use Rattle.payer_book.specs.declared.ruling.pricing.Prices.TheVariants.{Plan as OfPlan, Kept as OfAnswer}
 use Rattle.payer_book.specs.Ledger.{Ledger, standing_in, standing_of, is_for_payment}
@@ -30,12 +30,12 @@ billed_again s c = cond (same_claim s.claim c) (Duplicate s.auth c.fill.prescrip
 -- the judgement of a reversal, which is for this payment alone
 abbrev pub reversal_on : Reversal → Option Standing → Judged
 reversal_on v None = Unpriced (Rejected (ReversalNotProcessed ∷ []))
-reversal_on v (Some s) = Unpriced (Reversed s.auth v.prescription)
+reversal_on v (Some s) = ToReverse s.auth v
 
--- the ruling of a reversal that is for the payment of this authorization alone
-abbrev pub reversal_by : Reversal → Option Auth → Ruling
-reversal_by v None = Rejected (ReversalNotProcessed ∷ [])
-reversal_by v (Some auth) = Reversed auth v.prescription
+-- the judgement of a reversal that is for the payment of this authorization alone
+abbrev pub reversal_by : Reversal → Option Auth → Judged
+reversal_by v None = Unpriced (Rejected (ReversalNotProcessed ∷ []))
+reversal_by v (Some auth) = ToReverse auth v
 
 -- the judgement of an order over the standing payments
 abbrev pub judged_on : List Standing → Result Order (List Code) → Judged
@@ -46,16 +46,24 @@ judged_on standing (Ok (Reverses v)) = reversal_on v (only (filter (is_for_payme
 abbrev pub verdict : Judgement → Judged
 verdict (IsUnpriced ruling) = Unpriced ruling
 verdict (IsToPrice c) = ToPrice c.now
+verdict (IsToReverse auth v) = ToReverse auth v.now
 
--- where verdicts come from: a plan, or the rulings of an answer: a kept one of a book whose payer does not ask, or one that is kept by a payer
--- that asks or that advises it
+-- whether a payer asks about claims, and then about reversals too
+pub record Asking : Type 0 where
+  pub asks : Bool
+  pub reversals : Bool
+
+abbrev pub asking_of : BookSettings → Asking
+asking_of s = record { asks = s.asks; reversals = s.reversals }
+
+-- where verdicts and consents come from: a plan, or, of a payer that asks so, the rulings of an answer: one that is kept, or an advice
 pub data Pricing : Type 0 where
   ByPlan : Plan → Pricing
-  AsKept : (asks : Bool) → List Ruling → Pricing
+  AsKept : Asking → List Ruling → Pricing
 
 abbrev pub pricing : Prices → Pricing
 pricing (OfPlan plan) = ByPlan plan.now
-pricing (OfAnswer asks rulings) = AsKept asks rulings.now
+pricing (OfAnswer asks reversals rulings) = AsKept (record { asks = asks; reversals = reversals }) rulings.now
 
 -- what a ruling paid
 abbrev pub amounts_in : Option Ruling → Option Amounts
@@ -73,21 +81,36 @@ kept_verdict asks claimed said = cond asks (verdict_in claimed said) (Some (plan
 -- the verdict on the claim at a place
 abbrev pub price_at : Pricing → ℕ → Claim → Option Verdict
 price_at (ByPlan plan) place c = Some (planned (paid plan c))
-price_at (AsKept asks rulings) place c = kept_verdict asks c.fill.prescription (slice_get rulings place)
+price_at (AsKept a rulings) place c = kept_verdict a.asks c.fill.prescription (slice_get rulings place)
+
+-- the consent that an answer has to the reversal of a prescription: it is given; of a payer that asks about reversals, what it says of that
+-- prescription
+abbrev pub kept_consent : Asking → ℕ → Option Ruling → Option Consent
+kept_consent a asked said = cond (a.asks && a.reversals) (consent_in asked said) (Some Allows)
+
+-- the consent to the reversal at a place
+abbrev pub consent_at : Pricing → ℕ → Reversal → Option Consent
+consent_at (ByPlan plan) place v = Some Allows
+consent_at (AsKept a rulings) place v = kept_consent a v.prescription (slice_get rulings place)
 
 -- the verdict as the code has it
 abbrev pub price_seen : Result Amounts (List Code) → Verdict
 price_seen (Ok amounts) = Pays amounts
 price_seen (Err codes) = Rejects codes
 
--- the pricing is that of a book whose payer asks, or does not
-abbrev pub Suits : Pricing → Bool → Type 0
-Suits (ByPlan plan) asks = asks ≡ false
-Suits (AsKept own said) asks = own ≡ asks
+-- the consent as the code has it
+abbrev pub consent_seen : Result Unit (List Code) → Consent
+consent_seen (Ok nothing) = Allows
+consent_seen (Err codes) = Denies codes
 
--- where a book has its verdicts from, with an advice
-abbrev pub pricing_of : Book → List Ruling → Pricing
-pricing_of b advice = cond b.settings.asks (AsKept true advice) (ByPlan b.plan)
+-- the pricing is that of a book of these settings
+abbrev pub Suits : Pricing → BookSettings → Type 0
+Suits (ByPlan plan) s = s.asks ≡ false
+Suits (AsKept own said) s = own ≡ asking_of s
+
+-- where a book has its verdicts and consents from, with an advice
+abbrev pub pricing_of : Book → Advice → Pricing
+pricing_of b advice = cond b.settings.asks (AsKept (asking_of b.settings) advice.rulings) (ByPlan b.plan)
 
 -- the authorization of the next payment after some changes
 abbrev pub auth_after : Ledger → List Change → Auth
@@ -105,6 +128,7 @@ IsRulingThatFits ruling result = MatchOption result (serial_fits ruling ≡ fals
 abbrev pub ruling_by : Auth → Pricing → ℕ → Judged → Ruling
 ruling_by auth prices place (Unpriced ruling) = ruling
 ruling_by auth prices place (ToPrice c) = priced auth c (price_at prices place c)
+ruling_by auth prices place (ToReverse paid_under v) = taken_back paid_under v (consent_at prices place v)
 
 -- the ruling of the next place, after the changes of the places before
 unfoldable pub ruling_on : Ledger → Pricing → List Change → Result Order (List Code) → Ruling
@@ -113,8 +137,9 @@ ruling_on l prices changes order = ruling_by (auth_after l changes) prices (leng
 abbrev pub advised_by : Pricing → ℕ → Judged → Bool
 advised_by prices place (Unpriced ruling) = true
 advised_by prices place (ToPrice c) = is_some (price_at prices place c)
+advised_by prices place (ToReverse paid_under v) = is_some (consent_at prices place v)
 
--- there is a verdict at the next place, if one is wanted
+-- there is a verdict or a consent at the next place, if one is wanted
 unfoldable pub advised_on : Ledger → Pricing → List Change → Result Order (List Code) → Bool
 advised_on l prices changes order = advised_by prices (length changes) (judged_on (standing_after (standing_in l.payments) changes) order)
 
@@ -151,5 +176,5 @@ pub record IsDraft (l : Ledger) (prices : Pricing) (orders : List (Result Order 
   pub ruled : d.rulings.items ≡ rulings_on l prices [] orders
   pub changed : d.changes.items ≡ changes_by orders d.rulings.items
   pub fit : list_all serial_fits d.rulings.items ≡ true
-  -- there is a verdict on each claim that is to be priced
+  -- there is a verdict on each claim that is to be priced, and a consent to each reversal that is asked about
   pub advised : d.advised ≡ all_advised_on l prices [] orders

@@ -10,7 +10,7 @@ use Rattle.payer_book.specs.declared.ruling.changes.Change.{Change}
 use Rattle.payer_book.specs.Changes.{changes_by}
 use Rattle.payer_book.specs.Drafts.{Pricing, ByPlan, AsKept}
 use Rattle.payer_book.specs.Books.{reading}
-use Rattle.payer_book.specs.Added.{kept_answer, kept_rulings, with_row, with_kept}
+use Rattle.payer_book.specs.Added.{kept_answer, kept_rulings, carried_in, row_saying, with_row, with_kept}
 
 -- the book with this plan
 abbrev pub with_plan : Book → Plan → Book
@@ -19,17 +19,19 @@ with_plan b plan = record { payer = b.payer; settings = b.settings; plan = plan;
 -- the rulings of a request after the rows of a book, by where its prices come from
 abbrev pub rulings_by : Pricing → Book → TxnId → List ℕ → List Ruling
 rulings_by (ByPlan plan) b id request = rulings_from reading (with_plan b plan) unadvised (ruled_rows reading b.rows) id 1 (reading.orders request)
-rulings_by (AsKept asks said) b id request = kept_rulings b id request said
+rulings_by (AsKept settings said) b id request = kept_rulings b id request said
 
--- the row that a request of an id gets at these prices
-abbrev pub row_by : Pricing → Book → TxnId → List ℕ → Row
-row_by prices b id request = record { id = id; request = request; rulings = rulings_by prices b id request }
+-- the row that a request of an id gets at these prices, with what its answer carries of a text
+abbrev pub row_by : Pricing → Book → TxnId → List ℕ → List ℕ → Row
+row_by prices b id request said = row_saying b id request (rulings_by prices b id request) said
 
 -- the row has the rulings that the rules give where it pays what it says, each payment with a serial that there is; these are the row's
--- changes, an answer can tell of each ruling, and the row can be added from what is kept of it, whatever the plan is
+-- changes, an answer can tell of each ruling and carries what there is of some text, and the row can be added from what is kept of it, whatever the
+-- plan is
 pub record IsEntry (b : Book) (row : Row) (changes : List Change) : Type 0 where
   pub ruled : row.rulings ≡ kept_rulings b row.id row.request row.rulings
   pub fit : list_all serial_fits row.rulings ≡ true
   pub changed : changes ≡ changes_by (reading.orders row.request) row.rulings
   pub told : AllByRecursion IsRuling row.rulings
+  pub carried : (said : List ℕ) × (row.carried ≡ carried_in b row.request row.rulings said)
   pub stands : (plan : Plan) → with_kept (with_plan b plan) row.id row.request (kept_answer row) ≡ Some (with_row (with_plan b plan) row)

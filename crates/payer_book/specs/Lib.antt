@@ -2,6 +2,7 @@
 pub mod Settings
 pub mod Faults
 pub mod Answers
+pub mod Advices
 pub mod Kept
 pub mod Posted
 pub mod Ledger

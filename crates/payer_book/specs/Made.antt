@@ -17,7 +17,7 @@ pub record IsTold (s : Standing) : Type 0 where
 -- verdicts that can be written
 abbrev pub ArePrices : Pricing → Type 0
 ArePrices (ByPlan plan) = ⊤
-ArePrices (AsKept asks said) = AdvisesWell said
+ArePrices (AsKept settings said) = AdvisesWell said
 
 -- the book of some rows is what adding them, in order, to an empty book makes, whatever its plan is
 abbrev pub MadeByAdding : ℕ → BookSettings → List Row → Type 0

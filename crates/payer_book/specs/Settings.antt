@@ -19,7 +19,7 @@ are_settings limits serial cap = nat_le 1 serial && (nat_le serial largest_seria
 
 -- settings of these numbers, within limits
 abbrev pub settings_within : Limits → ℕ → ℕ → Result BookSettings SettingFault
-settings_within limits serial cap = if are_settings limits serial cap then Ok (record { serial = serial; cap = cap; asks = false }) else Err BadSetting
+settings_within limits serial cap = if are_settings limits serial cap then Ok (record { serial = serial; cap = cap; asks = false; reversals = false; carries = false }) else Err BadSetting
 
 -- the same within the stated limits, 65,536 rows
 abbrev pub settings_of : ℕ → ℕ → Result BookSettings SettingFault

@@ -1,7 +1,9 @@
 //! The book, and what is read from it.
 
 pub(crate) mod adding;
+pub(crate) mod advice;
 pub(crate) mod answering;
+pub(crate) mod carrying;
 pub(crate) mod changing;
 pub(crate) mod deciding;
 pub(crate) mod entering;

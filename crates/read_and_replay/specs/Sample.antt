@@ -18,4 +18,4 @@ sample_plan = record { fee = 150; copay = 1000; prices = (codes "00093721410", 1
 
 -- an empty book of payer 1 with serials from 1 and at most 1,000 rows
 abbrev pub opening_book : Book
-opening_book = record { payer = 1; settings = record { serial = 1; cap = 1000; asks = false }; plan = sample_plan; rows = [] }
+opening_book = record { payer = 1; settings = record { serial = 1; cap = 1000; asks = false; reversals = false; carries = false }; plan = sample_plan; rows = [] }

@@ -1,12 +1,12 @@
 -- What settings say tells the settings.
-use Rattle.std.proofs.Common.{◌≡◌, ℕ, ◌≤◌, Bool, true, false, List, [], ◌++◌, Option, Some, None, refl, sym, ap, ◌∙◌, arith, append_assoc}
+use Rattle.std.proofs.Common.{◌≡◌, ℕ, zero, suc, ◌≤◌, Bool, true, false, List, [], ◌++◌, Option, Some, None, refl, sym, ap, ◌∙◌, arith, append_assoc}
 use Rattle.bin_routes.specs.Providers.{Providers}
 use Rattle.bin_routes.specs.Row.{Row}
 use Rattle.claim_model.specs.Journal.{PharmacySettings}
 use Rattle.claim_model.specs.Settings.{PayerSettings}
 use Rattle.world_settings.specs.Document.{Document}
 use Rattle.kept_logs.specs.Fields.{text_of}
-use Rattle.settings_digest.specs.Said.{number_text, pharmacy_text, price_text, serial_text, payer_text, key_text, ended_text, providers_text, route_text, said}
+use Rattle.settings_digest.specs.Said.{number_text, pharmacy_text, price_text, zeros_text, zeros, serial_text, payer_text, key_text, ended_text, providers_text, route_text, said}
 use Rattle.settings_digest.specs.Fits.{FitsPharmacy, FitsPrice, FitsSerial, FitsPayer, FitsPcn, FitsProviders, FitsRange, FitsLast, FitsRoute, FitsDocument}
 use Rattle.settings_digest.proofs.Apart.{Apart, number_apart, text_apart, both, by_parts, listed}
 
@@ -25,37 +25,75 @@ pharmacy_apart =
 price_apart : Apart FitsPrice price_text
 price_apart = both text_apart number_apart
 
--- a first serial number, before which 0 stands where the payer asks
-serial_tells : (x y : Bool × ℕ) (r s : List ℕ) → FitsSerial x.1 → FitsSerial y.1 → serial_text x.0 x.1 ++ r ≡ serial_text y.0 y.1 ++ s → (x ≡ y) × (r ≡ s)
-serial_tells (false, m) (false, n) r s u v h =
+-- zeros, and then a first serial number, which is none
+zeros_tell : (j k m n : ℕ) (r s : List ℕ) → FitsSerial m → FitsSerial n → zeros_text j m ++ r ≡ zeros_text k n ++ s → (j ≡ k) × (m ≡ n) × (r ≡ s)
+zeros_tell zero zero m n r s u v h =
     let t = number_apart.tells m n r s u.1 v.1 h in
-    (ap (λ (k : ℕ). (false, k)) t.0, t.1)
-serial_tells (false, m) (true, n) r s u v h =
-    let t = number_apart.tells m 0 r (number_text n ++ s) u.1 (omega arith) (h ∙ append_assoc (number_text 0) (number_text n) s) in
+    (refl, t.0, t.1)
+zeros_tell zero (suc k) m n r s u v h =
+    let t = number_apart.tells m 0 r (zeros_text k n ++ s) u.1 (omega arith) (h ∙ append_assoc (number_text 0) (zeros_text k n) s) in
     let least = u.0 in
     absurd (omega (arith, t.0, least))
-serial_tells (true, m) (false, n) r s u v h =
-    let t = number_apart.tells 0 n (number_text m ++ r) s (omega arith) v.1 (sym (append_assoc (number_text 0) (number_text m) r) ∙ h) in
+zeros_tell (suc j) zero m n r s u v h =
+    let t = number_apart.tells 0 n (zeros_text j m ++ r) s (omega arith) v.1 (sym (append_assoc (number_text 0) (zeros_text j m) r) ∙ h) in
     let least = v.0 in
     absurd (omega (arith, t.0, least))
-serial_tells (true, m) (true, n) r s u v h =
-    let t = number_apart.tells 0 0 (number_text m ++ r) (number_text n ++ s) (omega arith) (omega arith) (sym (append_assoc (number_text 0) (number_text m) r) ∙ (h ∙ append_assoc (number_text 0) (number_text n) s)) in
-    let k = number_apart.tells m n r s u.1 v.1 t.1 in
-    (ap (λ (n : ℕ). (true, n)) k.0, k.1)
+zeros_tell (suc j) (suc k) m n r s u v h =
+    let t = number_apart.tells 0 0 (zeros_text j m ++ r) (zeros_text k n ++ s) (omega arith) (omega arith)
+    (sym (append_assoc (number_text 0) (zeros_text j m) r) ∙ (h ∙ append_assoc (number_text 0) (zeros_text k n) s)) in
+    let more = zeros_tell j k m n r s u v t.1 in
+    (ap suc more.0, more.1, more.2)
 
-serial_apart : Apart {A = Bool × ℕ} (λ x. FitsSerial x.1) (λ x. serial_text x.0 x.1)
+abbrev Flags : Type 0
+Flags = Bool × (Bool × Bool)
+
+-- the zeros tell whether a payer asks
+abbrev asking_of : ℕ → Flags
+asking_of zero = (false, (false, false))
+asking_of (suc zero) = (true, (false, false))
+asking_of (suc (suc zero)) = (false, (true, false))
+asking_of (suc (suc (suc zero))) = (true, (true, false))
+asking_of (suc (suc (suc (suc zero)))) = (false, (false, true))
+asking_of (suc (suc (suc (suc (suc zero))))) = (true, (false, true))
+asking_of (suc (suc (suc (suc (suc (suc zero)))))) = (false, (true, true))
+asking_of (suc (suc (suc (suc (suc (suc (suc k))))))) = (true, (true, true))
+
+asking_is : (x : Flags) → asking_of (zeros x.0 x.1.0 x.1.1) ≡ x
+asking_is (false, (false, false)) = refl
+asking_is (true, (false, false)) = refl
+asking_is (false, (true, false)) = refl
+asking_is (true, (true, false)) = refl
+asking_is (false, (false, true)) = refl
+asking_is (true, (false, true)) = refl
+asking_is (false, (true, true)) = refl
+asking_is (true, (true, true)) = refl
+
+abbrev SerialParts : Type 0
+SerialParts = Flags × ℕ
+
+abbrev serial_of : SerialParts → List ℕ
+serial_of x = serial_text x.0.0 x.0.1.0 x.0.1.1 x.1
+
+serial_tells : (x y : SerialParts) (r s : List ℕ) → FitsSerial x.1 → FitsSerial y.1 → serial_of x ++ r ≡ serial_of y ++ s → (x ≡ y) × (r ≡ s)
+serial_tells x y r s u v h =
+    let t = zeros_tell (zeros x.0.0 x.0.1.0 x.0.1.1) (zeros y.0.0 y.0.1.0 y.0.1.1) x.1 y.1 r s u v h in
+    let asks : x.0 ≡ y.0 = sym (asking_is x.0) ∙ (ap asking_of t.0 ∙ asking_is y.0) in
+    let serial : x.1 ≡ y.1 = t.1 in
+    ((λ i. (asks i, serial i)), t.2)
+
+serial_apart : Apart {A = SerialParts} (λ x. FitsSerial x.1) serial_of
 serial_apart = record { tells = serial_tells }
 
 abbrev PayerParts : Type 0
-PayerParts = ((Bool × ℕ) × ℕ) × (ℕ × (ℕ × List (List ℕ × ℕ)))
+PayerParts = (SerialParts × ℕ) × (ℕ × (ℕ × List (List ℕ × ℕ)))
 
 abbrev payer_of : PayerParts → PayerSettings
-payer_of p = record { book = record { serial = p.0.0.1; cap = p.0.1; asks = p.0.0.0 }; plan = record { fee = p.1.0; copay = p.1.1.0; prices = p.1.1.1 } }
+payer_of p = record { book = record { serial = p.0.0.1; cap = p.0.1; asks = p.0.0.0.0; reversals = p.0.0.0.1.0; carries = p.0.0.0.1.1 }; plan = record { fee = p.1.0; copay = p.1.1.0; prices = p.1.1.1 } }
 
 payer_apart : Apart FitsPayer payer_text
 unfolding payer_text
 payer_apart =
-    by_parts (λ (p : PayerSettings). (((p.book.asks, p.book.serial), p.book.cap), (p.plan.fee, (p.plan.copay, p.plan.prices)))) payer_of (λ p. refl)
+    by_parts (λ (p : PayerSettings). ((((p.book.asks, (p.book.reversals, p.book.carries)), p.book.serial), p.book.cap), (p.plan.fee, (p.plan.copay, p.plan.prices)))) payer_of (λ p. refl)
     (both (both serial_apart number_apart) (both number_apart (both number_apart (listed price_apart))))
 
 -- ---- a route

@@ -1,5 +1,5 @@
 -- What settings say, as a text that hangs on nothing else: each of their fields in a fixed order, so that each ends where it says.
-use Rattle.std.specs.Prelude.{ℕ, Bool, true, false, List, ◌++◌, length, Option, Some, None}
+use Rattle.std.specs.Prelude.{ℕ, zero, suc, Bool, true, false, List, ◌++◌, length, Option, Some, None}
 use Rattle.std.specs.List.{flat_map}
 use Rattle.std.specs.Int.{w64, to_be_bytes}
 use Rattle.bin_routes.specs.Providers.{Providers}
@@ -33,14 +33,30 @@ pharmacy_text p = identity_text p ++ (list_text number_text p.nodes ++ retries_t
 abbrev pub price_text : List ℕ × ℕ → List ℕ
 price_text price = text_of price.0 ++ number_text price.1
 
--- the first serial number of a payer; where it asks, 0 stands before it
-abbrev pub serial_text : Bool → ℕ → List ℕ
-serial_text false serial = number_text serial
-serial_text true serial = number_text 0 ++ number_text serial
+-- this many zeros, and then the first serial number of a payer
+abbrev pub zeros_text : ℕ → ℕ → List ℕ
+zeros_text zero serial = number_text serial
+zeros_text (suc k) serial = number_text 0 ++ zeros_text k serial
+
+-- how many zeros: none where a payer does not ask; one where it asks about claims, two more where it asks about reversals, and four more where
+-- answers carry what advices say beside their rulings
+abbrev pub zeros : (asks reversals carries : Bool) → ℕ
+zeros false false false = 0
+zeros true false false = 1
+zeros false true false = 2
+zeros true true false = 3
+zeros false false true = 4
+zeros true false true = 5
+zeros false true true = 6
+zeros true true true = 7
+
+-- the first serial number of a payer, after what says whether it asks
+abbrev pub serial_text : (asks reversals carries : Bool) → ℕ → List ℕ
+serial_text asks reversals carries serial = zeros_text (zeros asks reversals carries) serial
 
 -- a payer: its first serial number and its cap; its dispensing fee, its copay, and its prices in the order of their products
 abbrev pub book_text : BookSettings → List ℕ
-book_text b = serial_text b.asks b.serial ++ number_text b.cap
+book_text b = serial_text b.asks b.reversals b.carries b.serial ++ number_text b.cap
 
 abbrev pub plan_text : Plan → List ℕ
 plan_text p = number_text p.fee ++ (number_text p.copay ++ list_text price_text p.prices)

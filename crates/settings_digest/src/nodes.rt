@@ -77,12 +77,24 @@ fn put_book(out: &mut Vec<u8>, book: BookSettings) -> Result<(), AllocError>
     put_number(out, u64::from(book.cap()))
 }
 
-/// Puts the first serial number of a book. Where its payer asks, 0 stands before it, which is no serial number.
+/// Puts the first serial number of a book. Where its payer asks, 0 stands before it, which is no serial number, where it asks about
+/// reversals twice more, and where answers carry what advices say beside their rulings four times more.
 fn put_serial(out: &mut Vec<u8>, book: BookSettings) -> Result<(), AllocError>
-    ensures text { OnOk result (out.new.items ≡ out.old.items ++ serial_text book.asks book.serial) }
+    ensures text { OnOk result (out.new.items
+        ≡ out.old.items ++ serial_text book.asks book.reversals book.carries book.serial) }
     ensures fits { OnOk result (FitsSerial book.serial) }
 {
     if book.asks() {
+        put_number(out, 0)?;
+    }
+    if book.reversals() {
+        put_number(out, 0)?;
+        put_number(out, 0)?;
+    }
+    if book.carries() {
+        put_number(out, 0)?;
+        put_number(out, 0)?;
+        put_number(out, 0)?;
         put_number(out, 0)?;
     }
     put_number(out, book.serial())

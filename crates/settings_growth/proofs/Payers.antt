@@ -3,14 +3,14 @@ use Rattle.std.proofs.Common.{◌≡◌, ℕ, ◌+◌, ◌≤◌, Bool, true, fa
 use Rattle.std.specs.Prelude.{bytes_eq, ◌&&◌}
 use Rattle.std.specs.List.{list_all}
 use Rattle.std.proofs.lemmas.Bool.Decides.{nat_tests}
-use Rattle.claim_model.specs.Words.{TxnId, RequestHeader, RouteKey, Envelope, EnvelopeFault, Plan, PlanFault, Order, Code, Ruling}
+use Rattle.claim_model.specs.Words.{Advice, TxnId, RequestHeader, RouteKey, Envelope, EnvelopeFault, Plan, PlanFault, Order, Code, Ruling}
 use Rattle.claim_model.specs.Context.{Context}
 use Rattle.claim_model.specs.Readable.{readable, route_key, payer_for, is_payer, answer_text, is_request}
 use Rattle.claim_model.specs.declared.refusal.Refusal.{Refusal}
 use Rattle.claim_model.specs.Ruled.{Ruled, ruled}
 use Rattle.claim_model.specs.Rows.{Row, Book, ruled_rows}
-use Rattle.claim_model.specs.Judgement.{Judged, Unpriced, ToPrice, judged, ruling, rulings_from, is_advised, all_advised}
-use Rattle.claim_model.specs.Book.{serial_fits, row_of, new_row, has_verdicts, unadvised, entered_row, answered_by, answered_readable, answered}
+use Rattle.claim_model.specs.Judgement.{Judged, Unpriced, ToPrice, ToReverse, judged, ruling, rulings_from, is_advised, all_advised}
+use Rattle.claim_model.specs.Book.{serial_fits, row_of, row_with, new_row, has_verdicts, unadvised, entered_row, answered_by, answered_readable, answered}
 use Rattle.claim_model.specs.Node.{Node, Power, Up, AtRest, Sent, Call, Submit, Tick, Take, Stop, Start, Reprice, Adjudicate, Outcome, Done, Refused, after_answer, payer_takes, advice_in, after_reprice, payer_up, payer_at_rest, payer_step}
 use Rattle.settings_growth.specs.Growth.{book_with_cap, RouteLasts}
 use Rattle.settings_growth.proofs.Rerouted.{rerouted, leading}
@@ -20,20 +20,20 @@ capped cap b = record b { settings = record b.settings { cap = cap } }
 
 -- a ruling hangs on no cap and on no route
 
-ruled_alike : (ctx : Context) (route : ℕ → RouteKey → Option ℕ) (b : Book) (advice : List Ruling) (cap : ℕ) (before : List Ruled) (id : TxnId) (place : ℕ) (orders : List (Result Order (List Code)))
+ruled_alike : (ctx : Context) (route : ℕ → RouteKey → Option ℕ) (b : Book) (advice : Advice) (cap : ℕ) (before : List Ruled) (id : TxnId) (place : ℕ) (orders : List (Result Order (List Code)))
     → rulings_from (rerouted ctx route) (capped cap b) advice before id place orders ≡ rulings_from ctx b advice before id place orders
 unfolding ruling
 ruled_alike ctx route b advice cap before id place [] = refl
 ruled_alike ctx route b advice cap before id place (order ∷ orders) =
     ap (λ (rs : List Ruling). ruling ctx b advice before place order ∷ rs) (ruled_alike ctx route b advice cap (before ++ ruled id place order (ruling ctx b advice before place order) ∷ []) id (place + 1) orders)
 
-row_alike : (ctx : Context) (route : ℕ → RouteKey → Option ℕ) (b : Book) (advice : List Ruling) (cap : ℕ) (id : TxnId) (request : List ℕ) → new_row (rerouted ctx route) (capped cap b) advice id request ≡ new_row ctx b advice id request
+row_alike : (ctx : Context) (route : ℕ → RouteKey → Option ℕ) (b : Book) (advice : Advice) (cap : ℕ) (id : TxnId) (request : List ℕ) → new_row (rerouted ctx route) (capped cap b) advice id request ≡ new_row ctx b advice id request
 row_alike ctx route b advice cap id request =
-    ap (λ (rs : List Ruling). record { id = id; request = request; rulings = rs }) (ruled_alike ctx route b advice cap (ruled_rows ctx b.rows) id 1 (ctx.orders request))
+    ap (row_with ctx b advice id request) (ruled_alike ctx route b advice cap (ruled_rows ctx b.rows) id 1 (ctx.orders request))
 
 -- and so it is with whether it has its verdicts
 
-advised_alike : (ctx : Context) (route : ℕ → RouteKey → Option ℕ) (b : Book) (advice : List Ruling) (cap : ℕ) (before : List Ruled) (id : TxnId) (place : ℕ) (orders : List (Result Order (List Code)))
+advised_alike : (ctx : Context) (route : ℕ → RouteKey → Option ℕ) (b : Book) (advice : Advice) (cap : ℕ) (before : List Ruled) (id : TxnId) (place : ℕ) (orders : List (Result Order (List Code)))
     → all_advised (rerouted ctx route) (capped cap b) advice before id place orders ≡ all_advised ctx b advice before id place orders
 unfolding ruling
 advised_alike ctx route b advice cap before id place [] = refl
@@ -43,6 +43,7 @@ advised_alike ctx route b advice cap before id place (order ∷ orders) =
     one_alike : (j : Judged) (x y : Bool) → x ≡ y → (is_advised (rerouted ctx route) (capped cap b) advice place j && x) ≡ (is_advised ctx b advice place j && y)
     one_alike (Unpriced given) x y e = e
     one_alike (ToPrice c) x y e = ap (λ (t : Bool). is_advised ctx b advice place (ToPrice c) && t) e
+    one_alike (ToReverse auth v) x y e = ap (λ (t : Bool). is_advised ctx b advice place (ToReverse auth v) && t) e
 
 -- a new row has room still
 
@@ -50,13 +51,13 @@ still_room : (rows cap more : ℕ) → cap ≤ more → nat_lt rows cap ≡ true
 still_room rows cap more le e = grind (arith, nat_tests)
 
 enters : (ctx : Context) (b : Book) (cap : ℕ) (h : RequestHeader) (row : Row) (fits advised : Bool) (from : Node) (id : TxnId) (next : Power Book Book) (sent : List Sent)
-    → after_answer ctx from id (cond fits (cond advised (Ok (record { book = record b { rows = b.rows ++ row ∷ [] }; bytes = answer_text ctx h row.rulings; kept = false })) (Err Refusal.NotAdvised)) (Err Refusal.SerialsUsedUp)) ≡ Done next sent
-    → after_answer ctx from id (cond fits (cond advised (Ok (record { book = record (capped cap b) { rows = b.rows ++ row ∷ [] }; bytes = answer_text ctx h row.rulings; kept = false })) (Err Refusal.NotAdvised)) (Err Refusal.SerialsUsedUp)) ≡ Done (book_with_cap cap next) sent
+    → after_answer ctx from id (cond fits (cond advised (Ok (record { book = record b { rows = b.rows ++ row ∷ [] }; bytes = answer_text ctx h row; kept = false })) (Err Refusal.NotAdvised)) (Err Refusal.SerialsUsedUp)) ≡ Done next sent
+    → after_answer ctx from id (cond fits (cond advised (Ok (record { book = record (capped cap b) { rows = b.rows ++ row ∷ [] }; bytes = answer_text ctx h row; kept = false })) (Err Refusal.NotAdvised)) (Err Refusal.SerialsUsedUp)) ≡ Done (book_with_cap cap next) sent
 enters ctx b cap h row true true from id next sent e = ap (leading (book_with_cap cap)) e
 enters ctx b cap h row true false from id next sent e = absurd cc
 enters ctx b cap h row false advised from id next sent e = absurd cc
 
-has_room : (ctx : Context) (route : ℕ → RouteKey → Option ℕ) (b : Book) (advice : List Ruling) (cap : ℕ) (h : RequestHeader) (id : TxnId) (request : List ℕ) (from : Node) (room more : Bool) (next : Power Book Book) (sent : List Sent) → (room ≡ true → more ≡ true)
+has_room : (ctx : Context) (route : ℕ → RouteKey → Option ℕ) (b : Book) (advice : Advice) (cap : ℕ) (h : RequestHeader) (id : TxnId) (request : List ℕ) (from : Node) (room more : Bool) (next : Power Book Book) (sent : List Sent) → (room ≡ true → more ≡ true)
     → after_answer ctx from id (cond room (entered_row ctx b h (has_verdicts ctx b advice id request) (new_row ctx b advice id request)) (Err Refusal.BookFull)) ≡ Done next sent
     → after_answer ctx from id (cond more (entered_row (rerouted ctx route) (capped cap b) h (has_verdicts (rerouted ctx route) (capped cap b) advice id request) (new_row (rerouted ctx route) (capped cap b) advice id request)) (Err Refusal.BookFull)) ≡ Done (book_with_cap cap next) sent
 has_room ctx route b advice cap h id request from false more next sent le e = absurd cc
@@ -72,10 +73,10 @@ known : (ctx : Context) (b : Book) (cap : ℕ) (bytes : List ℕ) (same : Bool) 
 known ctx b cap bytes true from id next sent e = ap (leading (book_with_cap cap)) e
 known ctx b cap bytes false from id next sent e = absurd cc
 
-by_row : (ctx : Context) (route : ℕ → RouteKey → Option ℕ) (b : Book) (advice : List Ruling) (cap : ℕ) (h : RequestHeader) (id : TxnId) (request : List ℕ) (from : Node) (o : Option Row) (next : Power Book Book) (sent : List Sent) → b.settings.cap ≤ cap
+by_row : (ctx : Context) (route : ℕ → RouteKey → Option ℕ) (b : Book) (advice : Advice) (cap : ℕ) (h : RequestHeader) (id : TxnId) (request : List ℕ) (from : Node) (o : Option Row) (next : Power Book Book) (sent : List Sent) → b.settings.cap ≤ cap
     → after_answer ctx from id (answered_by ctx b advice id request h o) ≡ Done next sent
     → after_answer ctx from id (answered_by (rerouted ctx route) (capped cap b) advice id request h o) ≡ Done (book_with_cap cap next) sent
-by_row ctx route b advice cap h id request from (Some row) next sent le e = known ctx b cap (answer_text ctx h row.rulings) (bytes_eq row.request request) from id next sent e
+by_row ctx route b advice cap h id request from (Some row) next sent le e = known ctx b cap (answer_text ctx h row) (bytes_eq row.request request) from id next sent e
 by_row ctx route b advice cap h id request from None next sent le e =
     has_room ctx route b advice cap h id request from (nat_lt (length b.rows) b.settings.cap) (nat_lt (length b.rows) cap) next sent (still_room (length b.rows) b.settings.cap cap le) e
 
@@ -85,7 +86,7 @@ still_ours : (ctx : Context) (route : ℕ → RouteKey → Option ℕ) (id : Txn
 still_ours ctx route id h payer None wide is e = absurd cc
 still_ours ctx route id h payer (Some p) wide is e = ap (is_payer payer) (wide p is) ∙ e
 
-ours : (ctx : Context) (route : ℕ → RouteKey → Option ℕ) (b : Book) (advice : List Ruling) (cap : ℕ) (h : RequestHeader) (id : TxnId) (request : List ℕ) (from : Node) (own more : Bool) (next : Power Book Book) (sent : List Sent) → b.settings.cap ≤ cap → (own ≡ true → more ≡ true)
+ours : (ctx : Context) (route : ℕ → RouteKey → Option ℕ) (b : Book) (advice : Advice) (cap : ℕ) (h : RequestHeader) (id : TxnId) (request : List ℕ) (from : Node) (own more : Bool) (next : Power Book Book) (sent : List Sent) → b.settings.cap ≤ cap → (own ≡ true → more ≡ true)
     → after_answer ctx from id (cond own (answered_by ctx b advice id request h (row_of id b.rows)) (Err Refusal.NotOurs)) ≡ Done next sent
     → after_answer ctx from id (cond more (answered_by (rerouted ctx route) (capped cap b) advice id request h (row_of id b.rows)) (Err Refusal.NotOurs)) ≡ Done (book_with_cap cap next) sent
 ours ctx route b advice cap h id request from false more next sent le still e = absurd cc
@@ -93,14 +94,14 @@ ours ctx route b advice cap h id request from true more next sent le still e =
     ap (λ (m : Bool). after_answer ctx from id (cond m (answered_by (rerouted ctx route) (capped cap b) advice id request h (row_of id b.rows)) (Err Refusal.NotOurs))) (still refl)
     ∙ by_row ctx route b advice cap h id request from (row_of id b.rows) next sent le e
 
-by_header : (ctx : Context) (route : ℕ → RouteKey → Option ℕ) (b : Book) (advice : List Ruling) (cap : ℕ) (id : TxnId) (request : List ℕ) (from : Node) (o : Option RequestHeader) (next : Power Book Book) (sent : List Sent) → ((h : RequestHeader) (p : ℕ) → o ≡ Some h → payer_for ctx id h ≡ Some p → route id.number (route_key h) ≡ Some p) → b.settings.cap ≤ cap
+by_header : (ctx : Context) (route : ℕ → RouteKey → Option ℕ) (b : Book) (advice : Advice) (cap : ℕ) (id : TxnId) (request : List ℕ) (from : Node) (o : Option RequestHeader) (next : Power Book Book) (sent : List Sent) → ((h : RequestHeader) (p : ℕ) → o ≡ Some h → payer_for ctx id h ≡ Some p → route id.number (route_key h) ≡ Some p) → b.settings.cap ≤ cap
     → after_answer ctx from id (answered_readable ctx b advice id request o) ≡ Done next sent
     → after_answer ctx from id (answered_readable (rerouted ctx route) (capped cap b) advice id request o) ≡ Done (book_with_cap cap next) sent
 by_header ctx route b advice cap id request from None next sent wide le e = absurd cc
 by_header ctx route b advice cap id request from (Some h) next sent wide le e =
     ours ctx route b advice cap h id request from (is_payer b.payer (payer_for ctx id h)) (is_payer b.payer (route id.number (route_key h))) next sent le (still_ours ctx route id h b.payer (payer_for ctx id h) (λ p. wide h p refl) refl) e
 
-by_kind : (ctx : Context) (route : ℕ → RouteKey → Option ℕ) (b : Book) (advice : List Ruling) (cap : ℕ) (e : Envelope) (from : Node) (is : Bool) (next : Power Book Book) (sent : List Sent)
+by_kind : (ctx : Context) (route : ℕ → RouteKey → Option ℕ) (b : Book) (advice : Advice) (cap : ℕ) (e : Envelope) (from : Node) (is : Bool) (next : Power Book Book) (sent : List Sent)
     → ((h : RequestHeader) (p : ℕ) → is ≡ true → readable ctx e.payload ≡ Some h → payer_for ctx e.id h ≡ Some p → route e.id.number (route_key h) ≡ Some p) → b.settings.cap ≤ cap
     → cond is (after_answer ctx from e.id (answered ctx b advice e.id e.payload)) (Refused Refusal.Unreadable) ≡ Done next sent
     → cond is (after_answer ctx from e.id (answered (rerouted ctx route) (capped cap b) advice e.id e.payload)) (Refused Refusal.Unreadable) ≡ Done (book_with_cap cap next) sent
@@ -108,7 +109,7 @@ unfolding answered readable
 by_kind ctx route b advice cap e from true next sent wide le is = by_header ctx route b advice cap e.id e.payload from (readable ctx e.payload) next sent (λ h p. wide h p refl) le is
 by_kind ctx route b advice cap e from false next sent wide le is = absurd cc
 
-takes : (ctx : Context) (route : ℕ → RouteKey → Option ℕ) (b : Book) (advice : List Ruling) (cap : ℕ) (from : Node) (o : Result Envelope EnvelopeFault) (next : Power Book Book) (sent : List Sent)
+takes : (ctx : Context) (route : ℕ → RouteKey → Option ℕ) (b : Book) (advice : Advice) (cap : ℕ) (from : Node) (o : Result Envelope EnvelopeFault) (next : Power Book Book) (sent : List Sent)
     → ((e : Envelope) (h : RequestHeader) (p : ℕ) → o ≡ Ok e → is_request e ≡ true → readable ctx e.payload ≡ Some h → payer_for ctx e.id h ≡ Some p → route e.id.number (route_key h) ≡ Some p) → b.settings.cap ≤ cap
     → payer_takes ctx b advice from o ≡ Done next sent → payer_takes (rerouted ctx route) (capped cap b) advice from o ≡ Done (book_with_cap cap next) sent
 takes ctx route b advice cap from (Err why) next sent wide le e = absurd cc
@@ -158,7 +159,7 @@ capped_by : (f next : Power Book Book) (out sent : List Sent) → ◌≡◌ {A =
 capped_by f next out sent e = let n : f ≡ next = cc in sym (ap book_cap n)
 
 entered_capped : (ctx : Context) (b : Book) (h : RequestHeader) (row : Row) (fits advised room : Bool) (from : Node) (id : TxnId) (next : Power Book Book) (sent : List Sent)
-    → after_answer ctx from id (cond room (cond fits (cond advised (Ok (record { book = record b { rows = b.rows ++ row ∷ [] }; bytes = answer_text ctx h row.rulings; kept = false })) (Err Refusal.NotAdvised)) (Err Refusal.SerialsUsedUp)) (Err Refusal.BookFull)) ≡ Done next sent
+    → after_answer ctx from id (cond room (cond fits (cond advised (Ok (record { book = record b { rows = b.rows ++ row ∷ [] }; bytes = answer_text ctx h row; kept = false })) (Err Refusal.NotAdvised)) (Err Refusal.SerialsUsedUp)) (Err Refusal.BookFull)) ≡ Done next sent
     → book_cap next ≡ b.settings.cap
 entered_capped ctx b h row true true true from id next sent e = capped_by _ next _ sent e
 entered_capped ctx b h row true false true from id next sent e = absurd cc
@@ -170,20 +171,20 @@ known_capped : (ctx : Context) (b : Book) (bytes : List ℕ) (same : Bool) (from
 known_capped ctx b bytes true from id next sent e = capped_by _ next _ sent e
 known_capped ctx b bytes false from id next sent e = absurd cc
 
-row_capped : (ctx : Context) (b : Book) (advice : List Ruling) (h : RequestHeader) (id : TxnId) (request : List ℕ) (from : Node) (own : Bool) (o : Option Row) (next : Power Book Book) (sent : List Sent)
+row_capped : (ctx : Context) (b : Book) (advice : Advice) (h : RequestHeader) (id : TxnId) (request : List ℕ) (from : Node) (own : Bool) (o : Option Row) (next : Power Book Book) (sent : List Sent)
     → after_answer ctx from id (cond own (answered_by ctx b advice id request h o) (Err Refusal.NotOurs)) ≡ Done next sent → book_cap next ≡ b.settings.cap
 row_capped ctx b advice h id request from false o next sent e = absurd cc
-row_capped ctx b advice h id request from true (Some row) next sent e = known_capped ctx b (answer_text ctx h row.rulings) (bytes_eq row.request request) from id next sent e
+row_capped ctx b advice h id request from true (Some row) next sent e = known_capped ctx b (answer_text ctx h row) (bytes_eq row.request request) from id next sent e
 row_capped ctx b advice h id request from true None next sent e =
     entered_capped ctx b h (new_row ctx b advice id request) (list_all serial_fits (new_row ctx b advice id request).rulings) (has_verdicts ctx b advice id request) (nat_lt (length b.rows) b.settings.cap) from id next sent e
 
-header_capped : (ctx : Context) (b : Book) (advice : List Ruling) (id : TxnId) (request : List ℕ) (from : Node) (is : Bool) (o : Option RequestHeader) (next : Power Book Book) (sent : List Sent)
+header_capped : (ctx : Context) (b : Book) (advice : Advice) (id : TxnId) (request : List ℕ) (from : Node) (is : Bool) (o : Option RequestHeader) (next : Power Book Book) (sent : List Sent)
     → cond is (after_answer ctx from id (answered_readable ctx b advice id request o)) (Refused Refusal.Unreadable) ≡ Done next sent → book_cap next ≡ b.settings.cap
 header_capped ctx b advice id request from false o next sent e = absurd cc
 header_capped ctx b advice id request from true None next sent e = absurd cc
 header_capped ctx b advice id request from true (Some h) next sent e = row_capped ctx b advice h id request from (is_payer b.payer (payer_for ctx id h)) (row_of id b.rows) next sent e
 
-takes_capped : (ctx : Context) (b : Book) (advice : List Ruling) (from : Node) (o : Result Envelope EnvelopeFault) (next : Power Book Book) (sent : List Sent) → payer_takes ctx b advice from o ≡ Done next sent → book_cap next ≡ b.settings.cap
+takes_capped : (ctx : Context) (b : Book) (advice : Advice) (from : Node) (o : Result Envelope EnvelopeFault) (next : Power Book Book) (sent : List Sent) → payer_takes ctx b advice from o ≡ Done next sent → book_cap next ≡ b.settings.cap
 unfolding answered
 takes_capped ctx b advice from (Err why) next sent e = absurd cc
 takes_capped ctx b advice from (Ok x) next sent e = header_capped ctx b advice x.id x.payload from (is_request x) (readable ctx x.payload) next sent e

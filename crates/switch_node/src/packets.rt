@@ -7,6 +7,7 @@ ghost use Rattle.claim_model.specs.Readable.{rejection};
 ghost use Rattle.claim_model.specs.Bytes.{bytes_with};
 ghost use Rattle.switch_node.specs.Sent.{packet_text};
 
+use carried_fields::carrying_laws;
 use claim_profile::{Code, HeaderStatus, Rejects, Ruling, write_answer};
 use d0_header::{RequestHeader, response_text_laws};
 use envelope::{Envelope, HEAD, Kind, TxnId, payload_is_behind_its_head, write};
@@ -44,6 +45,7 @@ pub fn rejection(alloc: Global, header: &RequestHeader) -> Result<Vec<u8>, Alloc
     ensures short { IfOk result (λ answer. length answer.items ≤ longest_payload) }
 {
     response_text_laws();
+    carrying_laws();
     let rulings = [Ruling::Rejected {
         rejects: Rejects::one(Code::Bin),
     }; 4];

@@ -3,13 +3,13 @@ use Rattle.std.proofs.Common.{◌≡◌, ℕ, zero, suc, ◌+◌, List, [], ◌�
 use Rattle.std.specs.Prelude.{count_by, option_and_then, option_map}
 use Rattle.std.specs.List.{AllByRecursion}
 use Rattle.std.proofs.lemmas.List.{append-nil}
-use Rattle.claim_model.specs.Words.{TxnId, Auth, Envelope, EnvelopeFault, Order, Code, Plan, PlanFault, Ruling}
+use Rattle.claim_model.specs.Words.{Advice, TxnId, Auth, Envelope, EnvelopeFault, Order, Code, Plan, PlanFault, Ruling}
 use Rattle.claim_model.specs.Context.{Context}
 use Rattle.claim_model.specs.Readable.{payer_for, is_request}
 use Rattle.claim_model.specs.Numbered.{numbered}
 use Rattle.claim_model.specs.Ruled.{Ruled, ruled}
 use Rattle.claim_model.specs.Rows.{Row, BookSettings, Book, ruled_rows}
-use Rattle.claim_model.specs.Judgement.{Judged, Unpriced, ToPrice, judged, is_paid, next_auth, priced}
+use Rattle.claim_model.specs.Judgement.{Judged, Unpriced, ToPrice, ToReverse, judged, is_paid, next_auth, priced}
 use Rattle.claim_model.specs.Book.{row_of, new_row, unadvised, Answered, answered}
 use Rattle.claim_model.specs.Node.{Node, Power, Up, AtRest, Sent, Call, Submit, Tick, Take, Stop, Start, Reprice, Adjudicate, Done, after_answer, payer_takes, advice_in, after_reprice, payer_step}
 use Rattle.claim_model.specs.World.{World}
@@ -39,6 +39,7 @@ give_alike b after before (Unpriced settled) r payer settings g = g
 give_alike b after before (ToPrice c) r payer settings g =
     let same : next_auth b before ≡ next_auth after before = λ i. record { payer = sym payer i; serial = (sym settings i).serial + count_by (λ (x : Ruled). is_paid x.ruling) before } in
     (g.0, g.1 ∙ ap (λ (a : Auth). priced a c (Some g.0)) same)
+give_alike b after before (ToReverse auth v) r payer settings g = g
 
 all_alike : (b after : Book) (before : List Ruled) (id : TxnId) (place : ℕ) (orders : List (Result Order (List Code))) (rulings : List Ruling) → after.payer ≡ b.payer → after.settings ≡ b.settings
     → RulesGiveAll b before id place orders rulings → RulesGiveAll after before id place orders rulings
@@ -68,16 +69,16 @@ rows_more ctx b before (r ∷ rows) row o x =
 -- what a call makes of a book: its rows stay, or a new request is entered
 data Moves (ctx : Context) (b after : Book) : Type 0 where
   Same : after.rows ≡ b.rows → after.payer ≡ b.payer → after.settings ≡ b.settings → Moves ctx b after
-  Adds : (advice : List Ruling) → (id : TxnId) → (request : List ℕ) → row_of id b.rows ≡ None → after ≡ with_row b (new_row ctx b advice id request) → Moves ctx b after
+  Adds : (advice : Advice) → (id : TxnId) → (request : List ℕ) → row_of id b.rows ≡ None → after ≡ with_row b (new_row ctx b advice id request) → Moves ctx b after
 
 same_book : (ctx : Context) (b after : Book) → after ≡ b → Moves ctx b after
 same_book ctx b after e = Same (ap (λ (q : Book). q.rows) e) (ap (λ (q : Book). q.payer) e) (ap (λ (q : Book). q.settings) e)
 
-rows_move : (ctx : Context) (b : Book) (advice : List Ruling) (a : Answered) (e : Envelope) (r : Ruled_on ctx b advice e.id e.payload a) → Rows ctx b advice e.id e.payload r.header a → Moves ctx b a.book
+rows_move : (ctx : Context) (b : Book) (advice : Advice) (a : Answered) (e : Envelope) (r : Ruled_on ctx b advice e.id e.payload a) → Rows ctx b advice e.id e.payload r.header a → Moves ctx b a.book
 rows_move ctx b advice a e r (Known row found same book text) = same_book ctx b a.book book
 rows_move ctx b advice a e r (New fresh fits advised book text) = Adds advice e.id e.payload fresh book
 
-takes_move : (ctx : Context) (b : Book) (advice : List Ruling) (from : Node) (r : Result Envelope EnvelopeFault) (next : Power Book Book) (sent : List Sent) → payer_takes ctx b advice from r ≡ Done next sent → Moves ctx b (book_in next)
+takes_move : (ctx : Context) (b : Book) (advice : Advice) (from : Node) (r : Result Envelope EnvelopeFault) (next : Power Book Book) (sent : List Sent) → payer_takes ctx b advice from r ≡ Done next sent → Moves ctx b (book_in next)
 takes_move ctx b advice from (Err f) next sent e = absurd cc
 takes_move ctx b advice from (Ok env) next sent e =
     let t = takes_parts (is_request env) (after_answer ctx from env.id (answered ctx b advice env.id env.payload)) next sent e in

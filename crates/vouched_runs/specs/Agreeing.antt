@@ -8,7 +8,7 @@ use Rattle.claim_model.specs.Readable.{readable, payer_for}
 use Rattle.claim_model.specs.Numbered.{numbered}
 use Rattle.claim_model.specs.Ruled.{Ruled, ruled}
 use Rattle.claim_model.specs.Rows.{Row, Book, ruled_rows}
-use Rattle.claim_model.specs.Judgement.{Judged, Unpriced, ToPrice, judged, Verdict, next_auth, priced}
+use Rattle.claim_model.specs.Judgement.{Judged, Unpriced, ToPrice, ToReverse, judged, Verdict, next_auth, priced, Consent, taken_back}
 use Rattle.claim_model.specs.Book.{row_of}
 use Rattle.claim_model.specs.Journal.{PharmacySettings, JournalAtRest, Kept, is_own}
 use Rattle.claim_model.specs.World.{World}
@@ -32,10 +32,11 @@ pub record IsKeptJournal (ctx : Context) (settings : WorldSettings) (n : ℕ) (j
   pub entries : AllByRecursion (IsOwnEntry ctx j.settings) j.entries
 
 -- a ruling that the rules give for some plan or advice, where the order was judged so: what is settled; or, of a claim that is to be priced,
--- what some verdict makes of it under the next authorization
+-- what some verdict makes of it under the next authorization; or, of a reversal of a payment, what some consent makes of it
 abbrev pub RulesGive : Book → List Ruled → Judged → Ruling → Type 0
 RulesGive b before (Unpriced settled) r = r ≡ settled
 RulesGive b before (ToPrice c) r = (v : Verdict) × (r ≡ priced (next_auth b before) c (Some v))
+RulesGive b before (ToReverse auth v) r = (k : Consent) × (r ≡ taken_back auth v (Some k))
 
 -- one such ruling for each order from a place on, each over all rows before and the earlier places of its own request
 abbrev pub RulesGiveAll : Book → List Ruled → TxnId → ℕ → List (Result Order (List Code)) → List Ruling → Type 0

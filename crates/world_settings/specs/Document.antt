@@ -18,6 +18,7 @@ use Rattle.world_settings.specs.Pharmacies.{pharmacy_in}
 use Rattle.world_settings.specs.Payers.{switch_in, payer_in}
 use Rattle.world_settings.specs.Routes.{route_in}
 use Rattle.world_settings.specs.Limits.{limits_in, allows}
+use Rattle.world_settings.specs.Profile.{answers_in}
 
 -- what the nodes of a world are opened with, and the rows of its table of routes
 pub record Document : Type 0 where
@@ -28,14 +29,15 @@ pub record Document : Type 0 where
 abbrev pub document_keys : List (List ℕ)
 document_keys = codes "again" ∷ codes "tries" ∷ codes "pharmacy" ∷ codes "switch" ∷ codes "payer" ∷ codes "route" ∷ []
 
--- the settings that the values of a table spell; in wide ones payers may ask, and routes may be for some providers alone or lead to no payer
-unfoldable pub document_with : Bool → Members → Option Document
-document_with wide table = do
+-- the settings that the values of a table spell; in wide ones payers may ask, and answers carry what advices say beside their rulings or not, and
+-- routes may be for some providers alone or lead to no payer
+unfoldable pub document_with : (wide carries : Bool) → Members → Option Document
+document_with wide carries table = do
   again ← number_at (codes "again") 4294967295 table
   tries ← number_at (codes "tries") 4294967295 table
   pharmacies ← list_at (pharmacy_in again tries) (codes "pharmacy") table
   switches ← list_at switch_in (codes "switch") table
-  payers ← list_at (payer_in wide) (codes "payer") table
+  payers ← list_at (payer_in wide carries) (codes "payer") table
   routes ← list_at (route_in wide) (codes "route") table
   Some (record { world = record { pharmacies = pharmacies; switches = switches; payers = map payer_seen payers }; routes = routes })
 
@@ -44,20 +46,20 @@ abbrev pub allowed : Limits → Document → Option Document
 allowed limits d = if allows limits d.world then Some d else None
 
 -- the settings that the values of a table spell, within limits
-abbrev pub settings_within : Bool → Limits → Members → Option Document
-settings_within wide limits table = document_with wide table >>= allowed limits
+abbrev pub settings_within : (wide carries : Bool) → Limits → Members → Option Document
+settings_within wide carries limits table = document_with wide carries table >>= allowed limits
 
 -- the settings that a table spells, within the stated limits
 abbrev pub settings_of : Members → Option Document
-settings_of table = only_with document_keys table (settings_within false stated table)
+settings_of table = only_with document_keys table (settings_within false false stated table)
 
--- the keys of a document that may state its limits
+-- the keys of a document that may state its limits, and whether answers are wide
 abbrev pub living_keys : List (List ℕ)
-living_keys = codes "limits" ∷ document_keys
+living_keys = codes "limits" ∷ codes "answers" ∷ document_keys
 
 -- the settings that the values of a table spell, within the limits that it states
 abbrev pub living_with : Members → Option Document
-living_with table = limits_in table >>= (λ limits. settings_within true limits table)
+living_with table = limits_in table >>= (λ limits. answers_in table >>= (λ carries. settings_within true carries limits table))
 
 abbrev pub living_of : Members → Option Document
 living_of table = only_with living_keys table (living_with table)

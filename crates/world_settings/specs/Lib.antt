@@ -5,4 +5,5 @@ pub mod Pharmacies
 pub mod Payers
 pub mod Routes
 pub mod Limits
+pub mod Profile
 pub mod Document

@@ -1,5 +1,5 @@
 -- The settings of a switch and of a payer that tables of the arrays `switch` and `payer` spell.
-use Rattle.std.specs.Prelude.{ℕ, Bool, true, false, cond, List, [], ◌∷◌, codes, bytes_eq, Option, Some, None, if◌then◌else◌}
+use Rattle.std.specs.Prelude.{ℕ, Bool, true, false, List, [], ◌∷◌, codes, bytes_eq, Option, Some, None, if◌then◌else◌}
 use Rattle.std.specs.Result.{result_ok}
 use Rattle.input_text.specs.Options.{◌>>=◌}
 use Rattle.toml.specs.Data.{Data, Members, no_members, member, get_member, as_str, as_table}
@@ -31,18 +31,18 @@ abbrev pub payer_keys : Bool → List (List ℕ)
 payer_keys false = codes "fee" ∷ codes "copay" ∷ codes "cap" ∷ codes "serial" ∷ codes "prices" ∷ []
 payer_keys true = codes "asks" ∷ codes "fee" ∷ codes "copay" ∷ codes "cap" ∷ codes "serial" ∷ codes "prices" ∷ []
 
--- a payer asks for verdicts on claims
-abbrev pub asked : List ℕ → Option Bool
-asked text = if bytes_eq text (codes "claims") then Some true else None
+-- a book whose payer asks about claims, or about reversals too
+abbrev pub asking : Bool → BookSettings → BookSettings
+asking reversals b = record { serial = b.serial; cap = b.cap; asks = true; reversals = reversals; carries = b.carries }
 
--- whether a payer asks; where nothing is said it does not
-abbrev pub asks_of : Option Data → Option Bool
-asks_of None = Some false
-asks_of (Some value) = as_str value >>= asked
+-- the book whose payer asks about what a text says
+abbrev pub asked : BookSettings → List ℕ → Option BookSettings
+asked b text = if bytes_eq text (codes "claims") then Some (asking false b) else if bytes_eq text (codes "all") then Some (asking true b) else None
 
--- the settings of a book whose payer asks or does not
-abbrev pub book_asking : Bool → BookSettings → BookSettings
-book_asking asks b = cond asks (record { serial = b.serial; cap = b.cap; asks = true }) b
+-- the same, where a payer may say nothing: then it asks about nothing
+abbrev pub asks_of : BookSettings → Option Data → Option BookSettings
+asks_of b None = Some b
+asks_of b (Some value) = as_str value >>= asked b
 
 -- a plan with the price of one more product, where the plan takes it
 abbrev pub with_price : Plan → List ℕ → Data → Option Plan
@@ -62,21 +62,26 @@ with_prices plan (Some value) = as_table value >>= priced plan
 abbrev pub bare_plan : ℕ → ℕ → Plan
 bare_plan fee copay = record { fee = fee; copay = copay; prices = [] }
 
--- the settings that the values of a table spell
-unfoldable pub payer_with : Members → Option PayerSettings
-payer_with table = do
+-- a book whose answers are wide or not
+abbrev pub answering : Bool → BookSettings → BookSettings
+answering false b = b
+answering true b = record { serial = b.serial; cap = b.cap; asks = b.asks; reversals = b.reversals; carries = true }
+
+-- the settings that the values of a table spell, where answers are wide or not
+unfoldable pub payer_with : Bool → Members → Option PayerSettings
+payer_with carries table = do
   fee ← number_at (codes "fee") largest table
   copay ← number_at (codes "copay") largest table
   cap ← number_at (codes "cap") 4294967295 table
   serial ← number_or 1 18446744073709551615 (get_member (codes "serial") table)
   book ← result_ok (settings_within widest serial cap)
-  asks ← asks_of (get_member (codes "asks") table)
+  asked ← asks_of book (get_member (codes "asks") table)
   plan ← with_prices (bare_plan fee copay) (get_member (codes "prices") table)
-  Some (record { book = book_asking asks book; plan = plan; keys = tt })
+  Some (record { book = answering carries asked; plan = plan; keys = tt })
 
-abbrev pub payer_of : Bool → Members → Option PayerSettings
-payer_of wide table = only_with (payer_keys wide) table (payer_with table)
+abbrev pub payer_of : (wide carries : Bool) → Members → Option PayerSettings
+payer_of wide carries table = only_with (payer_keys wide) table (payer_with carries table)
 
 -- the same of a value, which has to be a table
-abbrev pub payer_in : Bool → Data → Option PayerSettings
-payer_in wide value = as_table value >>= payer_of wide
+abbrev pub payer_in : (wide carries : Bool) → Data → Option PayerSettings
+payer_in wide carries value = as_table value >>= payer_of wide carries

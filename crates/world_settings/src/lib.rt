@@ -10,6 +10,7 @@ mod limits;
 mod lists;
 mod payers;
 mod pharmacies;
+mod profile;
 mod ranges;
 mod routes;
 mod settings;

@@ -8,7 +8,7 @@ ghost use Rattle.claim_model.specs.Limits.{widest};
 ghost use Rattle.payer_book.specs.Settings.{settings_within};
 ghost use Rattle.plan_rules.specs.Terms.{largest};
 ghost use Rattle.world_settings.specs.Keys.{keys_among};
-ghost use Rattle.world_settings.specs.Payers.{asked, asks_of, bare_plan, cap_taken, payer_in, payer_keys, payer_of, payer_with, priced, switch_in, switch_of, with_price, with_prices};
+ghost use Rattle.world_settings.specs.Payers.{answering, asked, asks_of, bare_plan, cap_taken, payer_in, payer_keys, payer_of, payer_with, priced, switch_in, switch_of, with_price, with_prices};
 
 use crate::keys::has_only;
 use crate::lists::Reader;
@@ -36,6 +36,8 @@ pub(crate) struct Switches;
 pub(crate) struct Payers {
     /// Whether a payer may ask.
     pub(crate) wide: bool,
+    /// Whether answers carry what advices say beside their rulings.
+    pub(crate) carries: bool,
 }
 
 impl Reader<SwitchSettings> for Switches {
@@ -50,11 +52,11 @@ impl Reader<SwitchSettings> for Switches {
 }
 
 impl Reader<PayerSettings> for Payers {
-    ghost spelled = { λ reader. payer_in reader.wide };
+    ghost spelled = { λ reader. payer_in reader.wide reader.carries };
 
     fn read(&self, alloc: Global, value: &Value) -> Result<Option<PayerSettings>, AllocError> {
         match value.as_table() {
-            Some(table) => payer_of(alloc, self.wide, table),
+            Some(table) => payer_of(alloc, self.wide, self.carries, table),
             None => Ok(None),
         }
     }
@@ -84,13 +86,18 @@ fn cap_taken(cap: u32) -> Option<SwitchSettings>
 }
 
 /// The settings of a payer that a table spells, which may ask where settings are wide.
-fn payer_of(alloc: Global, wide: bool, table: &Table) -> Result<Option<PayerSettings>, AllocError>
-    ensures { IfOk result (λ settings. settings ≡ payer_of wide (table_view table.now)) }
+fn payer_of(
+    alloc: Global,
+    wide: bool,
+    carries: bool,
+    table: &Table,
+) -> Result<Option<PayerSettings>, AllocError>
+    ensures { IfOk result (λ settings. settings ≡ payer_of wide carries (table_view table.now)) }
 {
     if !has_payer_keys(wide, table) {
         return Ok(None);
     }
-    payer_with(alloc, table)
+    payer_with(alloc, carries, table)
 }
 
 /// Whether each key of a table is one of a payer's.
@@ -103,10 +110,14 @@ fn has_payer_keys(wide: bool, table: &Table) -> bool
     has_only(table, &["fee", "copay", "cap", "serial", "prices"])
 }
 
-/// The settings that the values of a table spell.
+/// The settings that the values of a table spell, where answers are wide or not.
 #[tactic(auto, unfolding(crate::specs::Payers::payer_with))]
-fn payer_with(alloc: Global, table: &Table) -> Result<Option<PayerSettings>, AllocError>
-    ensures { IfOk result (λ settings. settings ≡ payer_with (table_view table.now)) }
+fn payer_with(
+    alloc: Global,
+    carries: bool,
+    table: &Table,
+) -> Result<Option<PayerSettings>, AllocError>
+    ensures { IfOk result (λ settings. settings ≡ payer_with carries (table_view table.now)) }
 {
     let Some(fee) = number_at(table, "fee", MOST_CENTS) else {
         return Ok(None);
@@ -123,13 +134,12 @@ fn payer_with(alloc: Global, table: &Table) -> Result<Option<PayerSettings>, All
     let Some(book) = book_taken(serial, cap) else {
         return Ok(None);
     };
-    let Some(asks) = asks_of(table) else {
+    let Some(book) = asks_of(book, table) else {
         return Ok(None);
     };
-    let book = if asks { book.asking() } else { book };
     let bare = bare_plan(alloc, fee, copay);
     match with_prices(bare, table)? {
-        Some(plan) => Ok(Some(PayerSettings::new(book, plan))),
+        Some(plan) => Ok(Some(PayerSettings::new(answering(carries, book), plan))),
         None => Ok(None),
     }
 }
@@ -144,25 +154,36 @@ fn book_taken(serial: u64, cap: u32) -> Option<BookSettings>
     }
 }
 
-/// Whether the payer asks for a verdict on each claim that is to be priced; `None` where the key says something else.
-fn asks_of(table: &Table) -> Option<bool>
-    ensures { result ≡ asks_of (get_member (codes "asks") (table_view table.now)) }
+/// The settings of a book whose answers are wide or not.
+fn answering(carries: bool, book: BookSettings) -> BookSettings
+    ensures { result ≡ answering carries book }
+{
+    if carries { book.carrying() } else { book }
+}
+
+/// The settings of a book whose payer asks about what the key says, or about nothing where there is none; `None` where it says
+/// something else.
+fn asks_of(book: BookSettings, table: &Table) -> Option<BookSettings>
+    ensures { result ≡ asks_of book (get_member (codes "asks") (table_view table.now)) }
 {
     match value_at(table, "asks") {
-        None => Some(false),
+        None => Some(book),
         Some(value) => match value.as_str() {
-            Some(text) => asked(text.as_bytes()),
+            Some(text) => asked(book, text.as_bytes()),
             None => None,
         },
     }
 }
 
-/// What is asked for: claims.
-fn asked(text: &[u8]) -> Option<bool>
-    ensures { result ≡ asked text.now }
+/// The settings of a book whose payer asks about claims, or about all.
+fn asked(book: BookSettings, text: &[u8]) -> Option<BookSettings>
+    ensures { result ≡ asked book text.now }
 {
     if text == b"claims".as_slice() {
-        return Some(true);
+        return Some(book.asking());
+    }
+    if text == b"all".as_slice() {
+        return Some(book.asking_all());
     }
     None
 }

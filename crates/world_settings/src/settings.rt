@@ -11,6 +11,7 @@ use crate::limits::{allows, limits_in};
 use crate::lists::list_at;
 use crate::payers::{Payers, Switches};
 use crate::pharmacies::Pharmacies;
+use crate::profile::answers_in;
 use crate::routes::Routes;
 use crate::values::word_at;
 use claim_model::Limits;
@@ -45,8 +46,9 @@ pub fn read_settings(alloc: Global, text: &[u8]) -> Result<WorldSettings, Settin
 
 /// The same of wide settings, for programs that live. At the key `limits` they may state a table of `pharmacies` (at most
 /// 65,535), `switches`, `payers` (at most 4,096 each) and `entries` (at most 16,777,216, which is for every cap), each of
-/// which may be left out, and is then as without the table. A payer may have the key `asks`, which says `claims`, and a
-/// route the keys `qualifier` and `provider`, or `qualifier`, `first` and `last`, of the providers that it is for. A route
+/// which may be left out, and is then as without the table. At the key `answers` they may say whether answers carry what
+/// advices say beside their rulings, `profile`, which is `wide` or `narrow`. A payer may have the key `asks`, which says
+/// `claims` or `all`, and a route the keys `qualifier` and `provider`, or `qualifier`, `first` and `last`, of the providers that it is for. A route
 /// may have `rejected` in place of `payer`, and then has `pcn`, `qualifier` and `provider`: the requests of this provider up
 /// to the number there stay rejected (own).
 ///
@@ -77,7 +79,7 @@ fn settings_of(alloc: Global, table: &Table) -> Result<Option<WorldSettings>, Al
     ) {
         return Ok(None);
     }
-    settings_within(alloc, false, Limits::stated(), table)
+    settings_within(alloc, false, false, Limits::stated(), table)
 }
 
 /// The settings that a table spells, within the limits that it states.
@@ -87,7 +89,7 @@ fn living_of(alloc: Global, table: &Table) -> Result<Option<WorldSettings>, Allo
     if !has_only(
         table,
         &[
-            "limits", "again", "tries", "pharmacy", "switch", "payer", "route",
+            "limits", "answers", "again", "tries", "pharmacy", "switch", "payer", "route",
         ],
     ) {
         return Ok(None);
@@ -99,8 +101,11 @@ fn living_of(alloc: Global, table: &Table) -> Result<Option<WorldSettings>, Allo
 fn living_with(alloc: Global, table: &Table) -> Result<Option<WorldSettings>, AllocError>
     ensures { IfOk result (λ settings. option_map document_seen settings ≡ living_with (table_view table.now)) }
 {
-    match limits_in(table) {
-        Some(limits) => settings_within(alloc, true, limits, table),
+    let Some(limits) = limits_in(table) else {
+        return Ok(None);
+    };
+    match answers_in(table) {
+        Some(carries) => settings_within(alloc, true, carries, limits, table),
         None => Ok(None),
     }
 }
@@ -109,13 +114,14 @@ fn living_with(alloc: Global, table: &Table) -> Result<Option<WorldSettings>, Al
 fn settings_within(
     alloc: Global,
     wide: bool,
+    carries: bool,
     limits: Limits,
     table: &Table,
 ) -> Result<Option<WorldSettings>, AllocError>
     ensures { IfOk result (λ settings. option_map document_seen settings
-        ≡ settings_within wide limits (table_view table.now)) }
+        ≡ settings_within wide carries limits (table_view table.now)) }
 {
-    match document_with(alloc, wide, table)? {
+    match document_with(alloc, wide, carries, table)? {
         Some(settings) => Ok(allowed(limits, settings)),
         None => Ok(None),
     }
@@ -131,15 +137,17 @@ fn allowed(limits: Limits, settings: WorldSettings) -> Option<WorldSettings>
     Some(settings)
 }
 
-/// The settings that the values of a table spell; in wide ones payers may ask, and routes may be for some providers alone or
-/// lead to no payer.
+/// The settings that the values of a table spell; in wide ones payers may ask, answers carry what advices say beside their
+/// rulings or not, and routes may be for some providers alone or lead to no payer.
 #[tactic(auto, unfolding(crate::specs::Document::document_with))]
 pub(crate) fn document_with(
     alloc: Global,
     wide: bool,
+    carries: bool,
     table: &Table,
 ) -> Result<Option<WorldSettings>, AllocError>
-    ensures { IfOk result (λ settings. option_map document_seen settings ≡ document_with wide (table_view table.now)) }
+    ensures { IfOk result (λ settings. option_map document_seen settings
+        ≡ document_with wide carries (table_view table.now)) }
 {
     let (Some(again), Some(tries)) = (word_at(table, "again"), word_at(table, "tries")) else {
         return Ok(None);
@@ -150,7 +158,7 @@ pub(crate) fn document_with(
     let Some(switches) = list_at(alloc, table, "switch", &Switches)? else {
         return Ok(None);
     };
-    let Some(payers) = list_at(alloc, table, "payer", &Payers { wide })? else {
+    let Some(payers) = list_at(alloc, table, "payer", &Payers { wide, carries })? else {
         return Ok(None);
     };
     let Some(routes) = list_at(alloc, table, "route", &Routes { wide })? else {

@@ -31,6 +31,8 @@ pub(crate) enum Wanted {
     Pcn,
     /// What a payer asks for.
     Asked,
+    /// Whether answers are wide.
+    Profile,
     /// The numbers of switches.
     Switches,
     /// The numbers of switches, none over this one.
@@ -52,7 +54,9 @@ const BIN_DIGITS: usize = 6;
 /// The most bytes of a processor control number (104-A4).
 const MOST_PCN: usize = 10;
 /// What a payer may ask for.
-const ASKED: &str = "claims";
+const ASKED: [&str; 2] = ["claims", "all"];
+/// What the answers of a network may be.
+const PROFILES: [&str; 2] = ["narrow", "wide"];
 /// The most bytes of a product (407-D7).
 const MOST_PRODUCT: usize = 19;
 
@@ -68,6 +72,7 @@ pub(crate) const TOP: &[Key] = &[
 /// The keys of the whole, where it may state its limits.
 pub(crate) const LIVING_TOP: &[Key] = &[
     Key::AtWill("limits", Wanted::Table),
+    Key::AtWill("answers", Wanted::Table),
     Key::Needed("again", Wanted::Number(1, 1_000)),
     Key::Needed("tries", Wanted::Number(1, 1_000)),
     Key::Needed("pharmacy", Wanted::Tables),
@@ -82,6 +87,8 @@ pub(crate) const LIMITS: &[Key] = &[
     Key::AtWill("payers", Wanted::Number(1, 4_096)),
     Key::AtWill("entries", Wanted::Number(1, 16_777_216)),
 ];
+/// The keys of the table that says what answers carry.
+pub(crate) const ANSWERS: &[Key] = &[Key::Needed("profile", Wanted::Profile)];
 /// The keys of a pharmacy.
 pub(crate) const PHARMACY: &[Key] = &[
     Key::Needed("qualifier", Wanted::Text(2)),
@@ -182,7 +189,8 @@ impl Wanted {
                     && !ends_in_space(text.as_bytes()),
                 None => false,
             },
-            Wanted::Asked => value.as_str() == Some(ASKED),
+            Wanted::Asked => is_one_of(value, &ASKED),
+            Wanted::Profile => is_one_of(value, &PROFILES),
             Wanted::Cap | Wanted::Payer => value.as_integer().is_some(),
             Wanted::Switches => are_switches(value, i64::MAX),
             Wanted::SwitchesTo(most) => are_switches(value, most),
@@ -204,7 +212,8 @@ impl Display for Wanted {
                     "a text of at most 10 bytes without separators and without a space at its end",
                 )
             }
-            Wanted::Asked => f.write_str("the text claims"),
+            Wanted::Asked => f.write_str("the text claims or all"),
+            Wanted::Profile => f.write_str("the text narrow or wide"),
             Wanted::Cap => f.write_str("a cap"),
             Wanted::Payer => f.write_str("the number of a payer"),
             Wanted::Switches | Wanted::SwitchesTo(_) => {
@@ -223,6 +232,14 @@ impl Display for Wanted {
 fn is_within(value: &Value, least: i64, most: i64) -> bool {
     match value.as_integer() {
         Some(number) => least <= number && number <= most,
+        None => false,
+    }
+}
+
+/// Whether a value is one of these texts.
+fn is_one_of(value: &Value, texts: &[&str]) -> bool {
+    match value.as_str() {
+        Some(text) => texts.contains(&text),
         None => false,
     }
 }

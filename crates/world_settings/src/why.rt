@@ -4,8 +4,8 @@ use crate::limits::limits_in;
 use crate::ranges::providers_of;
 use crate::settings::document_with;
 use crate::wanted::{
-    Key, LIMITS, LIVING_PAYER, LIVING_ROUTE, LIVING_TOP, PAYER, PHARMACY, REJECTING_ROUTE, ROUTE,
-    SWITCH, TOP,
+    ANSWERS, Key, LIMITS, LIVING_PAYER, LIVING_ROUTE, LIVING_TOP, PAYER, PHARMACY, REJECTING_ROUTE,
+    ROUTE, SWITCH, TOP,
 };
 use claim_model::Limits;
 use std::alloc::{AllocError, Global};
@@ -72,7 +72,7 @@ fn whole_fault(
     limits: Limits,
     reader: Reader,
 ) -> Result<Option<String>, AllocError> {
-    let Some(settings) = document_with(alloc, reader.is_living(), document)? else {
+    let Some(settings) = document_with(alloc, reader.is_living(), false, document)? else {
         return Ok(None);
     };
     if has_too_many(&settings, limits) {
@@ -116,6 +116,9 @@ fn document_fault(
     if let Some(told) = limits_fault(alloc, document)? {
         return Ok(Some(told));
     }
+    if let Some(told) = answers_fault(alloc, document)? {
+        return Ok(Some(told));
+    }
     let limits = limits_in(document).unwrap_or(Limits::stated());
     let arrays = [("pharmacy", PHARMACY), ("switch", SWITCH), ("payer", payer)];
     for (name, keys) in arrays {
@@ -139,6 +142,17 @@ fn limits_fault(alloc: Global, document: &Table) -> Result<Option<String>, Alloc
     };
     match value.as_table() {
         Some(table) => table_fault(alloc, "[limits]", table, LIMITS, Limits::stated()),
+        None => Ok(None),
+    }
+}
+
+/// What is wrong with the key of what answers carry.
+fn answers_fault(alloc: Global, document: &Table) -> Result<Option<String>, AllocError> {
+    let Some(value) = document.get("answers") else {
+        return Ok(None);
+    };
+    match value.as_table() {
+        Some(table) => table_fault(alloc, "[answers]", table, ANSWERS, Limits::stated()),
         None => Ok(None),
     }
 }

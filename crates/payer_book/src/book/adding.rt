@@ -113,14 +113,14 @@ impl Book {
         ensures id { IfSome result (λ row. row.id ≡ id) }
         ensures row { IfSome result (λ row. with_kept self.now id request.now answer.now ≡ Some (with_row self.now row)) }
     {
-        let asks = self.settings.asks();
-        let likely = [likely_said(asks, answer)?];
+        let likely = [likely_said(&self.settings, answer)?];
         let prices = Prices::Kept {
-            asks,
+            asks: self.settings.asks(),
+            reversals: self.settings.reversals(),
             said: &likely,
         };
         let row = self
-            .prepare(alloc, draft, id, framed, request, prices)
+            .prepare(alloc, draft, id, framed, request, prices, answer)
             .ok()?;
         if row.answer() == answer {
             Some(row)
@@ -149,9 +149,10 @@ impl Book {
         let said = said(alloc, answer)?;
         let prices = Prices::Kept {
             asks: self.settings.asks(),
+            reversals: self.settings.reversals(),
             said: said.rulings(),
         };
-        let row = self.prepare(alloc, draft, id, framed, request, prices)?;
+        let row = self.prepare(alloc, draft, id, framed, request, prices, answer)?;
         if row.answer() != answer {
             return Err(RowFault::BadRow);
         }

@@ -4,6 +4,7 @@ ghost use Rattle.std.specs.Prelude.{◌≡◌, OnErr, Ok, None};
 ghost use Rattle.claim_model.specs.Book.{row_of, unadvised};
 ghost use Rattle.payer_book.specs.Answers.{Answers, Refuses};
 
+use crate::book::advice::Advice;
 use crate::book::{Book, Reply};
 use crate::ruling::drafting::Draft;
 use bin_routes::Routes;
@@ -26,7 +27,7 @@ impl Book {
         ensures err { OnErr result (self.new ≡ self.old) }
     {
         let alloc = self.allocator();
-        if let Some(place) = self.known(routes, id, request, &[])? {
+        if let Some(place) = self.known(routes, id, request, Advice::none())? {
             let bytes = Vec::from_slice(alloc, self.row_at(place).answer())?;
             return Ok(Reply { bytes, kept: true });
         }
@@ -50,7 +51,7 @@ impl Book {
         ensures fault { Refuses routes.now self.old unadvised id request.now result }
         ensures err { OnErr result (self.new ≡ self.old) }
     {
-        let row = self.decide_new(alloc, draft, routes, id, request, &[])?;
+        let row = self.decide_new(alloc, draft, routes, id, request, Advice::none())?;
         let bytes = Vec::from_slice(alloc, row.answer())?;
         self.enter(row, draft.changes.as_slice())?;
         Ok(Reply { bytes, kept: false })

@@ -2,6 +2,7 @@
 
 ghost use Rattle.std.specs.Prelude.{◌≡◌, IfOk, OnOk, Some, None};
 ghost use Rattle.claim_model.specs.Laws.{AdvisesWell};
+ghost use Rattle.payer_book.specs.Advices.{advice_seen};
 ghost use Rattle.payer_book.specs.Drafts.{pricing, pricing_of, Suits};
 ghost use Rattle.payer_book.specs.Made.{ArePrices};
 ghost use Rattle.claim_model.specs.Bytes.{bytes_with};
@@ -11,12 +12,13 @@ ghost use Rattle.payer_book.specs.Deciding.{IsKnown, IsAgain, IsNew};
 ghost use Rattle.payer_book.specs.Answers.{Refuses};
 
 use crate::book::Book;
+use crate::book::advice::Advice;
 use crate::book::row::Row;
 use crate::ruling::drafting::Draft;
 use crate::ruling::pricing::Prices;
 use bin_routes::{PayerNo, RouteKey, Routes};
 use claim_model::{Fault, Refusal};
-use claim_profile::{Ruling, check_readable};
+use claim_profile::check_readable;
 use d0_header::RequestHeader;
 use envelope::TxnId;
 use std::alloc::Global;
@@ -29,11 +31,11 @@ impl Book {
         routes: &Routes,
         id: TxnId,
         request: &[u8],
-        advice: &[Ruling],
+        advice: Advice<'_>,
     ) -> Result<Option<usize>, Fault>
         ensures known { IfOk result
-            (λ place. IsKnown (bytes_with routes.now) self.now advice.now id request.now place) }
-        ensures fault { Refuses routes.now self.now advice.now id request.now result }
+            (λ place. IsKnown (bytes_with routes.now) self.now (advice_seen advice.entry) id request.now place) }
+        ensures fault { Refuses routes.now self.now (advice_seen advice.entry) id request.now result }
     {
         let Some(place) = self.place_of(id) else {
             return Ok(None);
@@ -49,11 +51,12 @@ impl Book {
         id: TxnId,
         row: &Row,
         request: &[u8],
-        advice: &[Ruling],
+        advice: Advice<'_>,
     ) -> Result<(), Fault>
         requires { row_of id self.now.rows ≡ Some row.now }
-        ensures decided { OnOk result (IsAgain (bytes_with routes.now) self.now advice.now id request.now row.now) }
-        ensures fault { Refuses routes.now self.now advice.now id request.now result }
+        ensures decided { OnOk result
+            (IsAgain (bytes_with routes.now) self.now (advice_seen advice.entry) id request.now row.now) }
+        ensures fault { Refuses routes.now self.now (advice_seen advice.entry) id request.now result }
     {
         if row.request() == request {
             return self.decide_again(routes, id, row, advice);
@@ -75,12 +78,12 @@ impl Book {
         routes: &Routes,
         id: TxnId,
         row: &Row,
-        _advice: &[Ruling],
+        _advice: Advice<'_>,
     ) -> Result<(), Fault>
         requires { row_of id self.now.rows ≡ Some row.now }
         ensures decided { OnOk result
-            (IsAgain (bytes_with routes.now) self.now _advice.now id row.now.request row.now) }
-        ensures fault { Refuses routes.now self.now _advice.now id row.now.request result }
+            (IsAgain (bytes_with routes.now) self.now (advice_seen _advice.entry) id row.now.request row.now) }
+        ensures fault { Refuses routes.now self.now (advice_seen _advice.entry) id row.now.request result }
     {
         let key = row.route_key();
         if !is_routed(routes, id, &key, self.payer()) {
@@ -89,8 +92,7 @@ impl Book {
         Ok(())
     }
 
-    /// The row that a request gets under an id that has none, with the rulings of an advice; the draft then has what the
-    /// row changes.
+    /// The row that a request gets under an id that has none, with an advice; the draft then has what the row changes.
     pub(crate) fn decide_new(
         &self,
         alloc: Global,
@@ -98,13 +100,13 @@ impl Book {
         routes: &Routes,
         id: TxnId,
         request: &[u8],
-        advice: &[Ruling],
+        advice: Advice<'_>,
     ) -> Result<Row, Fault>
         requires fresh { row_of id self.now.rows ≡ None }
-        requires advice { AdvisesWell advice.now }
+        requires advice { AdvisesWell (advice_seen advice).rulings }
         ensures decided { IfOk result
-            (λ row. IsNew (bytes_with routes.now) self.now advice.now id request.now row draft.new.changes.items) }
-        ensures fault { Refuses routes.now self.now advice.now id request.now result }
+            (λ row. IsNew (bytes_with routes.now) self.now (advice_seen advice.entry) id request.now row draft.new.changes.items) }
+        ensures fault { Refuses routes.now self.now (advice_seen advice.entry) id request.now result }
     {
         let framed = match check_readable(request) {
             Some(framed) => framed,
@@ -117,7 +119,7 @@ impl Book {
             return Err(Fault::Refused(Refusal::BookFull));
         }
         let prices = self.prices(advice);
-        let row = self.prepare(alloc, draft, id, &framed, request, prices)?;
+        let row = self.prepare(alloc, draft, id, &framed, request, prices, advice.text)?;
         if draft.advised {
             Ok(row)
         } else {
@@ -125,17 +127,18 @@ impl Book {
         }
     }
 
-    /// Where the verdicts on claims come from: the plan, or where the payer asks an advice.
-    fn prices<'a>(&'a self, advice: &'a [Ruling]) -> Prices<'a>
-        requires { AdvisesWell advice.now }
-        ensures pricing { pricing result ≡ pricing_of self.now advice.now }
+    /// Where the verdicts on claims and the consents to reversals come from: the plan, or where the payer asks an advice.
+    fn prices<'a>(&'a self, advice: Advice<'a>) -> Prices<'a>
+        requires { AdvisesWell (advice_seen advice).rulings }
+        ensures pricing { pricing result ≡ pricing_of self.now (advice_seen advice.entry) }
         ensures prices { ArePrices (pricing result) }
-        ensures suits { Suits (pricing result) self.now.settings.asks }
+        ensures suits { Suits (pricing result) self.now.settings }
     {
         if self.settings.asks() {
             Prices::Kept {
                 asks: true,
-                said: advice,
+                reversals: self.settings.reversals(),
+                said: advice.rulings,
             }
         } else {
             Prices::Plan(&self.plan)

@@ -5,6 +5,7 @@ ghost use Rattle.std.specs.Prelude.{[], ◌∷◌, IfSome};
 ghost use Rattle.claim_model.specs.Laws.{AdvisesWell};
 
 use crate::ruling::judging::rejected;
+use crate::settings::BookSettings;
 use claim_profile::{Amounts, Auth, Code, Ruling};
 use d0_segments::SEGMENT_SEPARATOR;
 use overpunch::Amount;
@@ -27,24 +28,26 @@ struct Digits<'a> {
     rest: &'a [u8],
 }
 
-/// What an answer likely says of its one group: the amounts of a payment, or a rejection; of a repeat or a reversal anything,
-/// since no price is asked there. None where it has to be read: it has more groups, or is no answer as this product writes it.
-pub(crate) fn likely_said(asks: bool, answer: &[u8]) -> Option<Ruling>
+/// What an answer likely says of its one group: the amounts of a payment, or a rejection; of a repeat, or of a reversal that
+/// nobody was asked about, anything. None where it has to be read: it has more groups, tells of a reversal that may have been
+/// rejected, or is no answer as this product writes it.
+pub(crate) fn likely_said(settings: &BookSettings, answer: &[u8]) -> Option<Ruling>
     ensures { IfSome result (λ ruling. AdvisesWell (ruling ∷ [])) }
 {
     if *answer.get(COUNT)? != b'1' {
         return None;
     }
     match *answer.get(STATUS)? {
-        b'P' => likely_paid(asks, answer.get(PRESCRIPTION..)?),
-        b'D' | b'A' => Some(rejected(Code::NotCovered)),
-        b'R' => likely_rejected(asks),
+        b'P' => likely_paid(settings.asks(), answer.get(PRESCRIPTION..)?),
+        b'D' => Some(rejected(Code::NotCovered)),
+        b'A' => likely_rejected(settings.asks_reversals()),
+        b'R' => likely_rejected(settings.asks()),
         _ => None,
     }
 }
 
-/// The rejection of which an answer likely tells: with 70, if no rule gives its codes. A payer that asks is told others too, and
-/// its answer has to be read.
+/// The rejection of which an answer likely tells: with 70, if no rule gives its codes. A payer that asks about it is told others
+/// too, and its answer has to be read.
 fn likely_rejected(asks: bool) -> Option<Ruling>
     ensures { IfSome result (λ ruling. AdvisesWell (ruling ∷ [])) }
 {

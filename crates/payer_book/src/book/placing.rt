@@ -6,6 +6,7 @@ ghost use Rattle.payer_book.specs.Placing.{AnswersAt};
 ghost use Rattle.payer_book.specs.Answers.{Refuses};
 
 use crate::book::Book;
+use crate::book::advice::Advice;
 use crate::ruling::drafting::Draft;
 use bin_routes::Routes;
 use claim_model::Fault;
@@ -32,7 +33,7 @@ impl Book {
         ensures fault { Refuses routes.now self.old unadvised id request.now result }
         ensures err { OnErr result (self.new ≡ self.old) }
     {
-        if let Some(place) = self.known(routes, id, request, &[])? {
+        if let Some(place) = self.known(routes, id, request, Advice::none())? {
             return Ok(Placed { place, kept: true });
         }
         let alloc = self.allocator();
@@ -56,7 +57,7 @@ impl Book {
         ensures fault { Refuses routes.now self.old unadvised id request.now result }
         ensures err { OnErr result (self.new ≡ self.old) }
     {
-        let row = self.decide_new(alloc, draft, routes, id, request, &[])?;
+        let row = self.decide_new(alloc, draft, routes, id, request, Advice::none())?;
         let place = self.rows().len();
         self.enter(row, draft.changes.as_slice())?;
         Ok(Placed { place, kept: false })

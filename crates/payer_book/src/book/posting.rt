@@ -7,10 +7,12 @@ ghost use Rattle.claim_model.specs.Bytes.{bytes_with};
 ghost use Rattle.claim_model.specs.Book.{row_of, unadvised};
 ghost use Rattle.claim_model.specs.Laws.{AdvisesWell};
 ghost use Rattle.claim_model.specs.Node.{advice_in};
+ghost use Rattle.payer_book.specs.Advices.{advice_seen};
 ghost use Rattle.payer_book.specs.Posted.{IsPosted, SendsBack};
 ghost use Rattle.payer_book.specs.Answers.{Refuses};
 
 use crate::book::Book;
+use crate::book::advice::Advice;
 use crate::ruling::drafting::Draft;
 use bin_routes::Routes;
 use claim_model::{Fault, bytes_keep_laws};
@@ -37,11 +39,12 @@ impl Book {
         ensures fault { Refuses routes.now self.old unadvised id request.now result }
         ensures err { OnErr result (self.new ≡ self.old) }
     {
-        self.packet_for(routes, id, request, &[])
+        self.packet_for(routes, id, request, Advice::none())
     }
 
     /// The same with an advice, whose bytes are those of an answer to the request: where the payer asks, a claim that is to be
-    /// priced gets what the advice says at its place. Bytes that are no answer advise nothing.
+    /// priced gets what the advice says at its place, and where its settings say so the answer carries what the advice says
+    /// beside its rulings. Bytes that are no answer advise nothing.
     ///
     /// # Errors
     /// Those of `answer_packet`, in its order.
@@ -60,22 +63,27 @@ impl Book {
         ensures err { OnErr result (self.new ≡ self.old) }
     {
         let alloc = self.allocator();
-        let said = advised(alloc, routes, advice)?;
-        self.packet_for(routes, id, request, said.as_slice())
+        let rulings = advised(alloc, routes, advice)?;
+        let said = Advice {
+            rulings: rulings.as_slice(),
+            text: advice,
+        };
+        self.packet_for(routes, id, request, said)
     }
 
-    /// The packet that answers a request, with the rulings of an advice.
+    /// The packet that answers a request, with an advice.
     fn packet_for(
         &mut self,
         routes: &Routes,
         id: TxnId,
         request: &[u8],
-        advice: &[Ruling],
+        advice: Advice<'_>,
     ) -> Result<Octets, Fault>
-        requires { AdvisesWell advice.now }
-        ensures ok { IfOk result (λ packet. IsPosted (bytes_with routes.now) self.old advice.now id request.now self.new packet) }
-        ensures sent { SendsBack routes.now self.old advice.now id request.now self.new result }
-        ensures fault { Refuses routes.now self.old advice.now id request.now result }
+        requires { AdvisesWell (advice_seen advice).rulings }
+        ensures ok { IfOk result
+            (λ packet. IsPosted (bytes_with routes.now) self.old (advice_seen advice.entry) id request.now self.new packet) }
+        ensures sent { SendsBack routes.now self.old (advice_seen advice.entry) id request.now self.new result }
+        ensures fault { Refuses routes.now self.old (advice_seen advice.entry) id request.now result }
         ensures err { OnErr result (self.new ≡ self.old) }
     {
         let alloc = self.allocator();
@@ -96,12 +104,13 @@ impl Book {
         routes: &Routes,
         id: TxnId,
         request: &[u8],
-        advice: &[Ruling],
+        advice: Advice<'_>,
     ) -> Result<Octets, Fault>
         requires fresh { row_of id self.old.rows ≡ None }
-        requires advice { AdvisesWell advice.now }
-        ensures ok { IfOk result (λ packet. IsPosted (bytes_with routes.now) self.old advice.now id request.now self.new packet) }
-        ensures fault { Refuses routes.now self.old advice.now id request.now result }
+        requires advice { AdvisesWell (advice_seen advice).rulings }
+        ensures ok { IfOk result
+            (λ packet. IsPosted (bytes_with routes.now) self.old (advice_seen advice.entry) id request.now self.new packet) }
+        ensures fault { Refuses routes.now self.old (advice_seen advice.entry) id request.now result }
         ensures err { OnErr result (self.new ≡ self.old) }
     {
         let row = self.decide_new(alloc, draft, routes, id, request, advice)?;
@@ -113,7 +122,7 @@ impl Book {
 
 /// The rulings of an advice; none where its bytes are no answer.
 fn advised(alloc: Global, routes: &Routes, advice: &[u8]) -> Result<Vec<Ruling>, AllocError>
-    ensures said { IfOk result (λ rulings. rulings.items ≡ advice_in (bytes_with routes.now) advice.now) }
+    ensures said { IfOk result (λ rulings. rulings.items ≡ (advice_in (bytes_with routes.now) advice.now).rulings) }
     ensures well { IfOk result (λ rulings. AdvisesWell rulings.items) }
 {
     bytes_keep_laws();

@@ -8,7 +8,7 @@ ghost use Rattle.claim_model.specs.Bytes.{bytes_with};
 ghost use Rattle.claim_model.specs.Readable.{route_key};
 ghost use Rattle.claim_model.specs.Held.{row_answer};
 ghost use Rattle.envelope.specs.Envelope.{longest_payload};
-ghost use Rattle.payer_book.specs.Kept.{IsAnswered};
+ghost use Rattle.payer_book.specs.Kept.{IsAnswered, carried_of};
 ghost use Rattle.payer_book.specs.Added.{kept_answer};
 
 use crate::book::held_rulings::HeldRulings;
@@ -25,34 +25,53 @@ pub struct Row {
     id: TxnId,
     texts: Texts,
     rulings: HeldRulings,
+    /// Whether the answer carries anything beside the rulings.
+    carries: bool,
 }
 
 impl Model for Row {
     ghost use Rattle.claim_model.specs.Rows.{Row as RowParts};
-    ghost use Rattle.payer_book.specs.Kept.{IsAnswered};
+    ghost use Rattle.payer_book.specs.Kept.{IsAnswered, carried_of};
 
     ghost Value = { RowParts };
 
-    ghost view = { λ r. record { id = r.id; request = r.texts.request; rulings = r.rulings } };
+    ghost view = { λ r. record {
+      id = r.id;
+      request = r.texts.request;
+      rulings = r.rulings;
+      carried = carried_of r.carries r.texts.answer;
+    } };
 
-    ghost invariant = { λ r. IsAnswered r.texts.request r.rulings r.texts.answer };
+    ghost invariant = { λ r. IsAnswered r.texts.request r.rulings (carried_of r.carries r.texts.answer) r.texts.answer };
 }
 
 impl Row {
-    /// The row of a readable request with these rulings, and its answer: copies of them.
+    /// The row of a readable request with these rulings, and its answer, of which it is known whether it carries anything:
+    /// copies of them.
     pub(crate) fn copy_of(
         alloc: Global,
         id: TxnId,
         request: &[u8],
         rulings: &[Ruling],
         answer: &[u8],
+        carries: bool,
     ) -> Result<Row, AllocError>
-        requires { IsAnswered request.now rulings.now answer.now }
-        ensures { IfOk result (λ row. row ≡ record { id = id; request = request.now; rulings = rulings.now }) }
+        requires { IsAnswered request.now rulings.now (carried_of carries answer.now) answer.now }
+        ensures { IfOk result (λ row. row ≡ record {
+          id = id;
+          request = request.now;
+          rulings = rulings.now;
+          carried = carried_of carries answer.now;
+        }) }
     {
         let texts = Texts::copy_of(alloc, request, answer)?;
         let rulings = HeldRulings::copy_of(alloc, rulings)?;
-        Ok(Row { id, texts, rulings })
+        Ok(Row {
+            id,
+            texts,
+            rulings,
+            carries,
+        })
     }
 
     /// The pharmacy and number that the request came under.
@@ -91,9 +110,9 @@ impl Row {
         self.rulings.as_slice()
     }
 
-    /// The answer's bytes: header status `A` (501-F1) and one group for each ruling.
+    /// The answer's bytes: header status `A` (501-F1), one group for each ruling, and what the answer carries.
     pub fn answer(&self) -> &[u8]
-        ensures kept { IsAnswered self.now.request self.now.rulings result.now }
+        ensures kept { IsAnswered self.now.request self.now.rulings self.now.carried result.now }
         ensures short { length result.now ≤ longest_payload }
         ensures value { (routes : RouteMaps) → Some result.now ≡ row_answer (bytes_with routes) self.now }
         ensures text { result.now ≡ kept_answer self.now }

@@ -7,15 +7,15 @@ ghost use Rattle.d0_segments.specs.FramedParts.{framed_parts};
 ghost use Rattle.claim_model.specs.Bytes.{order_in, orders_in};
 ghost use Rattle.claim_model.specs.Book.{serial_fits};
 ghost use Rattle.payer_book.specs.Faults.{LacksSerial};
-ghost use Rattle.payer_book.specs.Drafts.{pricing, ruling_on, rulings_on, IsDraft, next_ruling, AddsRuling, AddsChange, auth_after, IsRulingThatFits, next_advised, advised_on, price_seen};
-ghost use Rattle.claim_model.specs.Judgement.{priced, Pays};
+ghost use Rattle.payer_book.specs.Drafts.{pricing, ruling_on, rulings_on, IsDraft, next_ruling, AddsRuling, AddsChange, auth_after, IsRulingThatFits, next_advised, advised_on, price_seen, consent_seen};
+ghost use Rattle.claim_model.specs.Judgement.{priced, Pays, taken_back};
 
 use crate::book::payments::Payments;
 use crate::ruling::changes::Change;
 use crate::ruling::judging::{Verdict, judge, rejected};
-use crate::ruling::pricing::{Price, Prices};
+use crate::ruling::pricing::{Consent, Price, Prices};
 use claim_model::{Fault, Refusal};
-use claim_profile::{Amounts, Claim, Code, Order, OrderFault, Ruling, order_at};
+use claim_profile::{Amounts, Auth, Claim, Code, Order, OrderFault, Reversal, Ruling, order_at};
 use d0_header::RequestHeader;
 use d0_segments::Framed;
 use std::alloc::Global;
@@ -27,7 +27,7 @@ pub(crate) struct Draft {
     pub(crate) rulings: Vec<Ruling>,
     pub(crate) changes: Vec<Change>,
     pub(crate) answer: Vec<u8>,
-    /// Whether each claim that is to be priced had a verdict.
+    /// Whether each claim that is to be priced had a verdict, and each reversal that is asked about a consent.
     pub(crate) advised: bool,
 }
 
@@ -102,7 +102,7 @@ impl Draft {
 struct Settled {
     /// Its ruling, after the changes of the places before; None where no serial number is left for it.
     ruling: Option<Ruling>,
-    /// Whether it has the verdict that it wants.
+    /// Whether it has the verdict or the consent that it wants.
     advised: bool,
 }
 
@@ -130,6 +130,28 @@ fn settle(
                 ruling: priced(payments, changes, claim, price),
             }
         }
+        Verdict::ToReverse(auth, reversal) => {
+            let consent = prices.consent(changes.len(), reversal);
+            Settled {
+                advised: consent.is_some(),
+                ruling: Some(taken_back(auth, reversal, consent)),
+            }
+        }
+    }
+}
+
+/// The ruling of a reversal by the consent to it.
+fn taken_back(auth: Auth, reversal: &Reversal, consent: Option<Consent>) -> Ruling
+    ensures value { result ≡ taken_back auth reversal.now (option_map consent_seen consent) }
+    ensures fits { serial_fits result ≡ true }
+{
+    match consent {
+        None => rejected(Code::ReversalNotProcessed),
+        Some(Ok(())) => Ruling::Reversed {
+            auth,
+            prescription: reversal.prescription,
+        },
+        Some(Err(rejects)) => Ruling::Rejected { rejects },
     }
 }
 

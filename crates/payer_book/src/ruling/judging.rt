@@ -1,4 +1,4 @@
-//! What is known of a group before a price is asked: no plan is looked at here.
+//! What is known of a group before a price or a consent is asked for: no plan and no advice is looked at here.
 
 ghost use Rattle.std.specs.Prelude.{◌≡◌, filter, [], ◌∷◌};
 ghost use Rattle.std.specs.Option.{option_copied, option_map};
@@ -14,11 +14,12 @@ use crate::book::payments::Payments;
 use crate::ruling::changes::{Change, is_reversed, left_for, left_matching};
 use claim_profile::{Auth, Claim, Code, Fill, Order, OrderFault, Rejects, Reversal, Ruling};
 
-/// A ruling that needs no price, or a claim that is to be priced.
+/// A ruling that is settled, a claim that is to be priced, or a reversal that may take back the payment of an authorization.
 #[derive(Drop)]
 pub(crate) enum Verdict<'a> {
     Unpriced(Ruling),
     ToPrice(&'a Claim),
+    ToReverse(Auth, &'a Reversal),
 }
 
 /// The verdict on an order over the payments of a book and what the places before change among them.
@@ -41,10 +42,7 @@ fn judge_order<'a>(payments: &Payments, changes: &[Change], order: &'a Order) ->
     match order {
         Order::Claim(claim) => judge_claim(claim, standing_for(payments, changes, &claim.fill)),
         Order::Reversal(reversal) => {
-            Verdict::Unpriced(judge_reversal(
-                reversal,
-                auth_to_reverse(payments, changes, reversal),
-            ))
+            judge_reversal(reversal, auth_to_reverse(payments, changes, reversal))
         }
     }
 }
@@ -74,16 +72,13 @@ fn billed_again(payment: &Standing, claim: &Claim) -> Ruling
     }
 }
 
-/// The ruling of a reversal that is for the payment of this authorization alone.
-fn judge_reversal(reversal: &Reversal, auth: Option<Auth>) -> Ruling
-    ensures { result ≡ reversal_by reversal.now auth }
+/// The verdict on a reversal that is for the payment of this authorization alone.
+fn judge_reversal<'a>(reversal: &'a Reversal, auth: Option<Auth>) -> Verdict<'a>
+    ensures { verdict result ≡ reversal_by reversal.now auth }
 {
     match auth {
-        None => rejected(Code::ReversalNotProcessed),
-        Some(auth) => Ruling::Reversed {
-            auth,
-            prescription: reversal.prescription,
-        },
+        None => Verdict::Unpriced(rejected(Code::ReversalNotProcessed)),
+        Some(auth) => Verdict::ToReverse(auth, reversal),
     }
 }
 

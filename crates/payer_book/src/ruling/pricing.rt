@@ -1,22 +1,29 @@
-//! Where the verdict on a claim comes from.
+//! Where the verdict on a claim and the consent to a reversal come from.
 
 ghost use Rattle.std.specs.Prelude.{◌≡◌, cond, Some, None, slice_get};
 ghost use Rattle.std.specs.Option.{option_map};
-ghost use Rattle.claim_model.specs.Judgement.{Pays, planned, verdict_in};
-ghost use Rattle.payer_book.specs.Drafts.{ByPlan, pricing, price_at, price_seen, amounts_in, kept_verdict};
+ghost use Rattle.claim_model.specs.Judgement.{Pays, planned, verdict_in, Allows, consent_in};
+ghost use Rattle.payer_book.specs.Drafts.{ByPlan, pricing, price_at, price_seen, amounts_in, kept_verdict, consent_at, consent_seen};
 
-use claim_profile::{Amounts, Claim, Code, Rejects, Ruling};
+use claim_profile::{Amounts, Claim, Code, Rejects, Reversal, Ruling};
 use plan_rules::Plan;
 
-/// A plan, or the rulings of an answer: a kept one, or the advice of a payer that asks.
+/// A plan, or, of a payer that asks so, the rulings of an answer: a kept one, or an advice.
 #[derive(Clone, Copy)]
 pub(crate) enum Prices<'a> {
     Plan(&'a Plan),
-    Kept { asks: bool, said: &'a [Ruling] },
+    Kept {
+        asks: bool,
+        reversals: bool,
+        said: &'a [Ruling],
+    },
 }
 
 /// What is paid for a claim, or the codes that reject it.
 pub(crate) type Price = Result<Amounts, Rejects>;
+
+/// That a payment is taken back, or the codes that reject its reversal.
+pub(crate) type Consent = Result<(), Rejects>;
 
 impl Prices<'_> {
     /// The verdict on the claim at a place of the request, from 0; None where none was given.
@@ -25,9 +32,60 @@ impl Prices<'_> {
     {
         match self {
             Prices::Plan(plan) => Some(by_plan(plan, claim)),
-            Prices::Kept { asks, said } => kept_at(*asks, said, place, claim.fill.prescription),
+            Prices::Kept { asks, said, .. } => {
+                kept_at(*asks, said, place, claim.fill.prescription)
+            }
         }
     }
+
+    /// The consent to the reversal at a place of the request, from 0; None where none was given.
+    pub(crate) fn consent(&self, place: usize, reversal: &Reversal) -> Option<Consent>
+        ensures { option_map consent_seen result ≡ consent_at (pricing self.now) place reversal.now }
+    {
+        match self {
+            Prices::Plan(_) => Some(Ok(())),
+            Prices::Kept {
+                asks,
+                reversals,
+                said,
+            } => {
+                if *asks && *reversals {
+                    consent_at(said, place, reversal.prescription)
+                } else {
+                    Some(Ok(()))
+                }
+            }
+        }
+    }
+}
+
+/// What an answer says of the reversal of a prescription, at a place.
+fn consent_at(said: &[Ruling], place: usize, asked: u64) -> Option<Consent>
+    ensures { option_map consent_seen result ≡ consent_in asked (slice_get said.now place) }
+{
+    match said.get(place) {
+        Some(ruling) => consent_in(ruling, asked),
+        None => None,
+    }
+}
+
+/// What a ruling says of the reversal of a prescription.
+fn consent_in(ruling: &Ruling, asked: u64) -> Option<Consent>
+    ensures { option_map consent_seen result ≡ consent_in asked (Some ruling.now) }
+{
+    match ruling {
+        Ruling::Paid { .. } => None,
+        Ruling::Duplicate { .. } => None,
+        Ruling::Reversed { prescription, .. } => allowed(*prescription == asked),
+        Ruling::Rejected { rejects } => Some(Err(*rejects)),
+    }
+}
+
+/// Consent, where it is to the reversal of the prescription that was asked about.
+fn allowed(same: bool) -> Option<Consent>
+    ensures { option_map consent_seen result ≡ cond same (Some Allows) None }
+{
+    if same { Some(Ok(())) } else { None }
 }
 
 /// The verdict of a plan.

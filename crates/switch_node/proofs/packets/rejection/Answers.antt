@@ -1,15 +1,15 @@
-use Rattle.std.proofs.Common.{◌≤◌, length, subst, sym, ap, ◌∙◌, refl}
+use Rattle.std.proofs.Common.{◌≤◌, length, replicate, subst, sym, ap, ◌∙◌, refl}
 use Rattle.claim_profile.specs.declared.ruling.HeaderStatus.TheVariants.{Rejected}
 use Rattle.claim_profile.specs.Answer.{answer_text}
 use Rattle.switch_node.proofs.Steps.{IfOk-map}
-use Rattle.switch_node.proofs.Rejections.{length-rejection, four-rejected}
+use Rattle.switch_node.proofs.Rejections.{rejected, length-rejection, four-rejected}
 use Rattle.switch_node.proofs.packets.rejection.Goals as goal
 
 pub returns-clause-text : goal.returns-clause-text
 returns-clause-text c =
     let h = c.args.header.now in
     let are = four-rejected c.one.result c.count-count.result h.count c.one.ensures c.count-count.ensures.value c.count-count.ensures.valid.most in
-    IfOk-map c.write_answer.result _ _ (λ answer is routes. is ∙ ap (answer_text h Rejected) are) c.write_answer.ensures.text
+    IfOk-map c.write_answer.result _ _ (λ answer is routes. is ∙ (ap (answer_text h Rejected) are ∙ sym (c.carrying_laws.ensures.plain h Rejected (replicate h.count rejected)))) c.write_answer.ensures.text
 
 pub returns-clause-short : goal.returns-clause-short
 returns-clause-short c =

@@ -1,4 +1,4 @@
-use Rattle.std.proofs.Common.{◌≡◌, true, Some, None, refl, subst, sym, ap, ◌∙◌}
+use Rattle.std.proofs.Common.{None, refl, subst, sym, ap, ◌∙◌}
 use Rattle.std.specs.Prelude.{IsSome}
 use Rattle.claim_profile.specs.Readable.{readable_header}
 use Rattle.switch_node.specs.Sent.{content, header_in}

@@ -3,7 +3,8 @@ use Rattle.std.specs.Prelude.{List, []}
 use Rattle.std.specs.List.{list_all}
 use Rattle.std.proofs.lemmas.Bool.{le-ltb, lt-ltb}
 use Rattle.std.proofs.lemmas.Result.{err_from_is_err_and}
-use Rattle.claim_profile.specs.Answer.{answer_text}
+use Rattle.carried_fields.specs.Carrying.{carrying_text}
+use Rattle.payer_book.specs.Advices.{advice_seen}
 use Rattle.claim_model.specs.Words.{RequestHeader, AcceptedStatus}
 use Rattle.claim_model.specs.Bytes.{bytes_with}
 use Rattle.claim_model.specs.Readable.{is_payer, payer_for}
@@ -37,81 +38,81 @@ fresh : (c : After-leads_to) → row_of c.args.id (opened c).rows ≡ None
 fresh c = subst (λ (b : Book). row_of c.args.id b.rows ≡ None) (sym c.self.view_is) c.requires.fresh
 
 pub returns-in-None-clause-fault : goal.returns-in-None-clause-fault
-returns-in-None-clause-fault c = unreadable c.args.routes.now c.args.self.now c.args.advice.now c.args.id c.args.request.now c.in-None.ensures.readable
+returns-in-None-clause-fault c = unreadable c.args.routes.now c.args.self.now (advice_seen c.args.advice) c.args.id c.args.request.now c.in-None.ensures.readable
 
 pub returns-then-not-leads_to-clause-fault : goal.returns-then-not-leads_to-clause-fault
 returns-then-not-leads_to-clause-fault c =
     let d = (goal.at.returns-then-not-leads_to-clause-fault c).After-leads_to in
-    subst (λ (b : Book). answered (bytes_with c.args.routes.now) b c.args.advice.now c.args.id c.args.request.now ≡ Err Refusal.NotOurs) c.self.view_is
-    (not_ours c.args.routes.now (opened d) c.args.advice.now c.args.id c.args.request.now c.in-Some.framed.header c.in-Some.ensures.readable (routed d false c.if-not-leads_to.true))
+    subst (λ (b : Book). answered (bytes_with c.args.routes.now) b (advice_seen c.args.advice) c.args.id c.args.request.now ≡ Err Refusal.NotOurs) c.self.view_is
+    (not_ours c.args.routes.now (opened d) (advice_seen c.args.advice) c.args.id c.args.request.now c.in-Some.framed.header c.in-Some.ensures.readable (routed d false c.if-not-leads_to.true))
 
 pub returns-then-len-cap-clause-fault : goal.returns-then-len-cap-clause-fault
 returns-then-len-cap-clause-fault c =
     let d = (goal.at.returns-then-len-cap-clause-fault c).After-leads_to in
     let cap : c.self.inside.settings.cap ≤ length c.self.inside.rows = omega (arith, c.len.ensures, c.cap.ensures.value) in
-    subst (λ (b : Book). answered (bytes_with c.args.routes.now) b c.args.advice.now c.args.id c.args.request.now ≡ Err Refusal.BookFull) c.self.view_is
-    (full c.args.routes.now (opened d) c.args.advice.now c.args.id c.args.request.now c.in-Some.framed.header c.in-Some.ensures.readable (routed d true c.if-not-leads_to.false)
+    subst (λ (b : Book). answered (bytes_with c.args.routes.now) b (advice_seen c.args.advice) c.args.id c.args.request.now ≡ Err Refusal.BookFull) c.self.view_is
+    (full c.args.routes.now (opened d) (advice_seen c.args.advice) c.args.id c.args.request.now c.in-Some.framed.header c.in-Some.ensures.readable (routed d true c.if-not-leads_to.false)
     (fresh d) (le-ltb (length c.self.inside.rows) c.self.inside.settings.cap cap))
 
 module _ (c : After-leads_to) (ours : c.leads_to.result ≡ true) (room : length c.self.inside.rows < c.self.inside.settings.cap) where
   abbrev own : Pricing
-  own = pricing_of (opened c) c.args.advice.now
+  own = pricing_of (opened c) (advice_seen c.args.advice)
 
   -- a fault of the new row is a refusal of the request
-  refused : (prices : Pricing) → prices ≡ pricing_of c.args.self.now c.args.advice.now → (f : Fault) → (f ≡ OutOfMemory) ⊎ ((f ≡ Refused Refusal.SerialsUsedUp) × (list_all serial_fits (rulings_by prices c.args.self.now c.args.id c.args.request.now) ≡ false))
-      → IsRefused (refusal_of f) (answered (bytes_with c.args.routes.now) c.args.self.now c.args.advice.now c.args.id c.args.request.now)
-  refused prices is f (inl e) = subst (λ (g : Fault). IsRefused (refusal_of g) (answered (bytes_with c.args.routes.now) c.args.self.now c.args.advice.now c.args.id c.args.request.now)) (sym e) tt
+  refused : (prices : Pricing) → prices ≡ pricing_of c.args.self.now (advice_seen c.args.advice) → (f : Fault) → (f ≡ OutOfMemory) ⊎ ((f ≡ Refused Refusal.SerialsUsedUp) × (list_all serial_fits (rulings_by prices c.args.self.now c.args.id c.args.request.now) ≡ false))
+      → IsRefused (refusal_of f) (answered (bytes_with c.args.routes.now) c.args.self.now (advice_seen c.args.advice) c.args.id c.args.request.now)
+  refused prices is f (inl e) = subst (λ (g : Fault). IsRefused (refusal_of g) (answered (bytes_with c.args.routes.now) c.args.self.now (advice_seen c.args.advice) c.args.id c.args.request.now)) (sym e) tt
   refused prices is f (inr e) =
-      let unfit : list_all serial_fits (rulings_by (pricing_of c.args.self.now c.args.advice.now) c.args.self.now c.args.id c.args.request.now) ≡ false =
+      let unfit : list_all serial_fits (rulings_by (pricing_of c.args.self.now (advice_seen c.args.advice)) c.args.self.now c.args.id c.args.request.now) ≡ false =
       subst (λ (p : Pricing). list_all serial_fits (rulings_by p c.args.self.now c.args.id c.args.request.now) ≡ false) is e.1 in
       let unfit_here : list_all serial_fits (rulings_by own (opened c) c.args.id c.args.request.now) ≡ false =
-      subst (λ (b : Book). list_all serial_fits (rulings_by (pricing_of b c.args.advice.now) b c.args.id c.args.request.now) ≡ false) (sym c.self.view_is) unfit in
-      subst (λ (g : Fault). IsRefused (refusal_of g) (answered (bytes_with c.args.routes.now) c.args.self.now c.args.advice.now c.args.id c.args.request.now)) (sym e.0)
-      (subst (λ (b : Book). answered (bytes_with c.args.routes.now) b c.args.advice.now c.args.id c.args.request.now ≡ Err Refusal.SerialsUsedUp) c.self.view_is
-      (used_up c.args.routes.now (opened c) c.args.advice.now c.args.id c.args.request.now c.in-Some.framed.header c.in-Some.ensures.readable (routed c true ours)
-      (fresh c) (lt-ltb (length c.self.inside.rows) c.self.inside.settings.cap room) (row_by own (opened c) c.args.id c.args.request.now)
-      (row_alike c.args.routes.now (opened c) c.self.inside.payments c.self.invariant.0 c.args.advice.now c.args.id c.args.request.now) unfit_here))
+      subst (λ (b : Book). list_all serial_fits (rulings_by (pricing_of b (advice_seen c.args.advice)) b c.args.id c.args.request.now) ≡ false) (sym c.self.view_is) unfit in
+      subst (λ (g : Fault). IsRefused (refusal_of g) (answered (bytes_with c.args.routes.now) c.args.self.now (advice_seen c.args.advice) c.args.id c.args.request.now)) (sym e.0)
+      (subst (λ (b : Book). answered (bytes_with c.args.routes.now) b (advice_seen c.args.advice) c.args.id c.args.request.now ≡ Err Refusal.SerialsUsedUp) c.self.view_is
+      (used_up c.args.routes.now (opened c) (advice_seen c.args.advice) c.args.id c.args.request.now c.in-Some.framed.header c.in-Some.ensures.readable (routed c true ours)
+      (fresh c) (lt-ltb (length c.self.inside.rows) c.self.inside.settings.cap room) (row_by own (opened c) c.args.id c.args.request.now c.args.advice.text.now)
+      (row_alike c.args.routes.now (opened c) c.self.inside.payments c.self.invariant.0 (advice_seen c.args.advice) c.args.id c.args.request.now) unfit_here))
 
-  module _ (prices : Pricing) (is : prices ≡ pricing_of c.args.self.now c.args.advice.now) (row : Row) (changes : List Change)
-      (made : IsEntry c.args.self.now row changes × (row ≡ row_by prices c.args.self.now c.args.id c.args.request.now)) where
-    row_here : row ≡ row_by own (opened c) c.args.id c.args.request.now
+  module _ (prices : Pricing) (is : prices ≡ pricing_of c.args.self.now (advice_seen c.args.advice)) (row : Row) (changes : List Change)
+      (made : IsEntry c.args.self.now row changes × (row ≡ row_by prices c.args.self.now c.args.id c.args.request.now c.args.advice.text.now)) where
+    row_here : row ≡ row_by own (opened c) c.args.id c.args.request.now c.args.advice.text.now
     row_here =
-        subst (λ (b : Book). row ≡ row_by (pricing_of b c.args.advice.now) b c.args.id c.args.request.now) (sym c.self.view_is)
-        (made.1 ∙ ap (λ (p : Pricing). row_by p c.args.self.now c.args.id c.args.request.now) is)
+        subst (λ (b : Book). row ≡ row_by (pricing_of b (advice_seen c.args.advice)) b c.args.id c.args.request.now c.args.advice.text.now) (sym c.self.view_is)
+        (made.1 ∙ ap (λ (p : Pricing). row_by p c.args.self.now c.args.id c.args.request.now c.args.advice.text.now) is)
 
-    alike : row ≡ new_row (bytes_with c.args.routes.now) (opened c) c.args.advice.now c.args.id c.args.request.now
-    alike = row_here ∙ row_alike c.args.routes.now (opened c) c.self.inside.payments c.self.invariant.0 c.args.advice.now c.args.id c.args.request.now
+    alike : row ≡ new_row (bytes_with c.args.routes.now) (opened c) (advice_seen c.args.advice) c.args.id c.args.request.now
+    alike = row_here ∙ row_alike c.args.routes.now (opened c) c.self.inside.payments c.self.invariant.0 (advice_seen c.args.advice) c.args.id c.args.request.now
 
     entry : IsEntry (opened c) row changes
     entry = subst (λ (b : Book). IsEntry b row changes) (sym c.self.view_is) made.0
 
     -- whether it is advised does not hang on the routes
-    verdicts : (t : Bool) → t ≡ has_verdicts (bytes_with (routes_of [])) c.args.self.now c.args.advice.now c.args.id c.args.request.now → t ≡ has_verdicts (bytes_with c.args.routes.now) (opened c) c.args.advice.now c.args.id c.args.request.now
+    verdicts : (t : Bool) → t ≡ has_verdicts (bytes_with (routes_of [])) c.args.self.now (advice_seen c.args.advice) c.args.id c.args.request.now → t ≡ has_verdicts (bytes_with c.args.routes.now) (opened c) (advice_seen c.args.advice) c.args.id c.args.request.now
     verdicts t e =
-        subst (λ (b : Book). t ≡ has_verdicts (bytes_with (routes_of [])) b c.args.advice.now c.args.id c.args.request.now) (sym c.self.view_is) e
-        ∙ (sym (has_verdicts_on (routes_of []) (opened c) c.self.inside.payments c.self.invariant.0 c.args.advice.now c.args.id c.args.request.now)
-        ∙ has_verdicts_on c.args.routes.now (opened c) c.self.inside.payments c.self.invariant.0 c.args.advice.now c.args.id c.args.request.now)
+        subst (λ (b : Book). t ≡ has_verdicts (bytes_with (routes_of [])) b (advice_seen c.args.advice) c.args.id c.args.request.now) (sym c.self.view_is) e
+        ∙ (sym (has_verdicts_on (routes_of []) (opened c) c.self.inside.payments c.self.invariant.0 (advice_seen c.args.advice) c.args.id c.args.request.now)
+        ∙ has_verdicts_on c.args.routes.now (opened c) c.self.inside.payments c.self.invariant.0 (advice_seen c.args.advice) c.args.id c.args.request.now)
 
     -- a row that lacks a verdict
-    lacks : has_verdicts (bytes_with c.args.routes.now) (opened c) c.args.advice.now c.args.id c.args.request.now ≡ false
-        → answered (bytes_with c.args.routes.now) c.args.self.now c.args.advice.now c.args.id c.args.request.now ≡ Err Refusal.NotAdvised
+    lacks : has_verdicts (bytes_with c.args.routes.now) (opened c) (advice_seen c.args.advice) c.args.id c.args.request.now ≡ false
+        → answered (bytes_with c.args.routes.now) c.args.self.now (advice_seen c.args.advice) c.args.id c.args.request.now ≡ Err Refusal.NotAdvised
     lacks none =
-        subst (λ (b : Book). answered (bytes_with c.args.routes.now) b c.args.advice.now c.args.id c.args.request.now ≡ Err Refusal.NotAdvised) c.self.view_is
-        (unadvised_new c.args.routes.now (opened c) c.args.advice.now c.args.id c.args.request.now c.in-Some.framed.header c.in-Some.ensures.readable (routed c true ours)
+        subst (λ (b : Book). answered (bytes_with c.args.routes.now) b (advice_seen c.args.advice) c.args.id c.args.request.now ≡ Err Refusal.NotAdvised) c.self.view_is
+        (unadvised_new c.args.routes.now (opened c) (advice_seen c.args.advice) c.args.id c.args.request.now c.in-Some.framed.header c.in-Some.ensures.readable (routed c true ours)
         (fresh c) (lt-ltb (length c.self.inside.rows) c.self.inside.settings.cap room) row alike entry.fit none)
 
     -- the new row answers the request
-    is_new : has_verdicts (bytes_with c.args.routes.now) (opened c) c.args.advice.now c.args.id c.args.request.now ≡ true
-        → IsNew (bytes_with c.args.routes.now) c.args.self.now c.args.advice.now c.args.id c.args.request.now row changes
+    is_new : has_verdicts (bytes_with c.args.routes.now) (opened c) (advice_seen c.args.advice) c.args.id c.args.request.now ≡ true
+        → IsNew (bytes_with c.args.routes.now) c.args.self.now (advice_seen c.args.advice) c.args.id c.args.request.now row changes
     is_new all =
-        let bytes = answer_text c.in-Some.framed.header AcceptedStatus row.rulings in
-        let text : kept_answer row ≡ bytes = new_text row c.args.id c.args.request.now _ c.in-Some.framed.header c.in-Some.ensures.readable row_here bytes refl in
-        subst (λ (b : Book). IsNew (bytes_with c.args.routes.now) b c.args.advice.now c.args.id c.args.request.now row changes) c.self.view_is
+        let bytes = carrying_text c.in-Some.framed.header AcceptedStatus row.rulings row.carried in
+        let text : kept_answer row ≡ bytes = new_text row c.args.id c.args.request.now _ _ c.in-Some.framed.header c.in-Some.ensures.readable row_here bytes refl in
+        subst (λ (b : Book). IsNew (bytes_with c.args.routes.now) b (advice_seen c.args.advice) c.args.id c.args.request.now row changes) c.self.view_is
         (record {
           entry = entry;
           room = room;
           fresh = ap (λ (r : Row). row_of r.id c.self.inside.rows) row_here ∙ fresh c;
-          ruled = answered_new c.args.routes.now (opened c) c.args.advice.now c.args.id c.args.request.now c.in-Some.framed.header c.in-Some.ensures.readable (routed c true ours)
+          ruled = answered_new c.args.routes.now (opened c) (advice_seen c.args.advice) c.args.id c.args.request.now c.in-Some.framed.header c.in-Some.ensures.readable (routed c true ours)
               (fresh c) (lt-ltb (length c.self.inside.rows) c.self.inside.settings.cap room) row alike (kept_answer row) entry.fit all text;
         })
 
@@ -129,7 +130,7 @@ returns-then-draft-clause-decided c =
     let own = c.prices-prices.ensures.pricing in
     is_new d c.if-not-leads_to.false room (pricing c.prices-prices.result) own c.in_ok-row.row c.prepare.new.draft.changes.items c.in_ok-row.ensures.made
     (sym (verdicts d c.if-not-leads_to.false room (pricing c.prices-prices.result) own c.in_ok-row.row c.prepare.new.draft.changes.items c.in_ok-row.ensures.made true
-    (sym c.if-draft.true ∙ c.in_ok-row.ensures.advised c.args.advice.now own)))
+    (sym c.if-draft.true ∙ c.in_ok-row.ensures.advised (advice_seen c.args.advice) own)))
 
 pub returns-else-draft-clause-fault : goal.returns-else-draft-clause-fault
 returns-else-draft-clause-fault c =
@@ -138,4 +139,4 @@ returns-else-draft-clause-fault c =
     let own = c.prices-prices.ensures.pricing in
     lacks d c.if-not-leads_to.false room (pricing c.prices-prices.result) own c.in_ok-row.row c.prepare.new.draft.changes.items c.in_ok-row.ensures.made
     (sym (verdicts d c.if-not-leads_to.false room (pricing c.prices-prices.result) own c.in_ok-row.row c.prepare.new.draft.changes.items c.in_ok-row.ensures.made false
-    (sym c.if-draft.false ∙ c.in_ok-row.ensures.advised c.args.advice.now own)))
+    (sym c.if-draft.false ∙ c.in_ok-row.ensures.advised (advice_seen c.args.advice) own)))

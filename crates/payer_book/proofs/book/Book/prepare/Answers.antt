@@ -1,29 +1,31 @@
-use Rattle.std.proofs.Common.{◌≡◌, ℕ, ◌≤◌, List, [], ◌++◌, length, true, false, Some, inl, inr, sym, ap, ◌∙◌, subst, arith}
+use Rattle.std.proofs.Common.{◌≡◌, ℕ, ◌≤◌, cond, List, [], length, Option, true, false, Some, inl, inr, refl, sym, ap, ◌∙◌, subst, arith}
 use Rattle.std.specs.List.{list_all, AllByRecursion}
 use Rattle.std.proofs.lemmas.Result.{err_from_is_err_and}
 use Rattle.bin_routes.specs.Table.{routes_of}
 use Rattle.d0_header.specs.Request.{Request}
 use Rattle.d0_segments.specs.FramedParts.{framed_parts}
 use Rattle.claim_profile.specs.declared.ruling.HeaderStatus.TheVariants.{Accepted}
-use Rattle.claim_profile.specs.Answer.{AreWritable, answer_text}
+use Rattle.claim_profile.specs.Answer.{AreWritable}
+use Rattle.carried_fields.specs.Carrying.{carrying_text, kept_text}
 use Rattle.claim_model.specs.Words.{Ruling, Plan}
 use Rattle.claim_model.specs.Laws.{IsRuling}
-use Rattle.claim_model.specs.Bytes.{orders_in, bytes_with}
+use Rattle.claim_model.specs.Bytes.{orders_in, kept_under, bytes_with}
 use Rattle.claim_model.specs.Readable.{readable}
 use Rattle.claim_model.specs.Rows.{Row, Book}
-use Rattle.claim_model.specs.Book.{serial_fits, has_verdicts}
+use Rattle.claim_model.specs.Book.{serial_fits, has_verdicts, carries_more}
 use Rattle.payer_book.proofs.Entered.{has_verdicts_on}
 use Rattle.claim_model.proofs.BytesLaws.{readable_alike}
 use Rattle.payer_book.specs.Changes.{changes_by}
 use Rattle.payer_book.specs.Drafts.{Pricing, pricing, pricing_of, Suits, rulings_on, all_advised_on}
 use Rattle.payer_book.specs.Books.{reading}
-use Rattle.payer_book.specs.Added.{kept_answer, kept_rulings, with_row, with_kept}
+use Rattle.payer_book.specs.Added.{kept_answer, kept_rulings, carried_in, row_saying, with_row, with_kept}
 use Rattle.payer_book.specs.Entries.{with_plan, rulings_by, IsEntry}
-use Rattle.payer_book.specs.Kept.{IsAnswered}
+use Rattle.payer_book.specs.Kept.{IsAnswered, carried_of}
 use Rattle.payer_book.proofs.RulingLemmas.{rulings_writable, length_rulings}
 use Rattle.payer_book.proofs.Keeping.{rulings_by_on, kept_again}
 use Rattle.payer_book.proofs.Tellable.{rulings_told, prices_fit}
 use Rattle.payer_book.proofs.Grown.{row_stands}
+use Rattle.payer_book.proofs.Carried.{kept_where}
 use Rattle.payer_book.proofs.book.Book.prepare.Goals as goal
 use Rattle.payer_book.proofs.book.Book.prepare.Goals.{After-rule_all, In_ok-rule_all, After-copy_of}
 
@@ -38,8 +40,8 @@ is_readable : (c : After-rule_all) → readable reading c.args.request.now ≡ S
 is_readable c = readable_alike (routes_of []) c.args.request.now ∙ c.requires.readable
 
 -- its prices suit it
-suits : (c : After-rule_all) → Suits (pricing c.args.prices) c.self.inside.settings.asks
-suits c = subst (λ (b : Book). Suits (pricing c.args.prices) b.settings.asks) (sym c.self.view_is) c.requires.suits
+suits : (c : After-rule_all) → Suits (pricing c.args.prices) c.self.inside.settings
+suits c = subst (λ (b : Book). Suits (pricing c.args.prices) b.settings) (sym c.self.view_is) c.requires.suits
 
 ruled : (c : In_ok-rule_all) → c.rule_all.new.draft.rulings.items ≡ rulings_on c.self.inside.payments (pricing c.args.prices) [] (reading.orders c.args.request.now)
 ruled c = c.in_ok-rule_all.ensures.made.ruled ∙ ap (rulings_on c.self.inside.payments (pricing c.args.prices) []) (ap orders_in (sym c.requires.parts))
@@ -59,19 +61,19 @@ returns-in_err-rule_all-clause-fault c =
       )
     ])
 
-pub put_answer-requires-clause-count : goal.put_answer-requires-clause-count
-put_answer-requires-clause-count c =
-    let d = (goal.at.put_answer-requires-clause-count c).After-rule_all in
-    let o = (goal.at.put_answer-requires-clause-count c).In_ok-rule_all in
+pub write_into-requires-clause-count : goal.write_into-requires-clause-count
+write_into-requires-clause-count c =
+    let d = (goal.at.write_into-requires-clause-count c).After-rule_all in
+    let o = (goal.at.write_into-requires-clause-count c).In_ok-rule_all in
     ap (λ (rs : List Ruling). length rs) (c.as_slice-rulings.ensures.value ∙ ruled o)
     ∙ (length_rulings c.self.inside.payments (pricing c.args.prices) [] (reading.orders c.args.request.now)
     ∙ (c.orders_of_requests.ensures.groups (routes_of []) c.args.request.now c.args.framed.now.header (is_readable d)
     ∙ ap (λ (h : Request). h.count) (sym c.header.ensures)))
 
-pub put_answer-requires-clause-writable : goal.put_answer-requires-clause-writable
-put_answer-requires-clause-writable c =
-    let d = (goal.at.put_answer-requires-clause-writable c).After-rule_all in
-    let o = (goal.at.put_answer-requires-clause-writable c).In_ok-rule_all in
+pub write_into-requires-clause-writable : goal.write_into-requires-clause-writable
+write_into-requires-clause-writable c =
+    let d = (goal.at.write_into-requires-clause-writable c).After-rule_all in
+    let o = (goal.at.write_into-requires-clause-writable c).In_ok-rule_all in
     subst (AreWritable Accepted) (sym (c.as_slice-rulings.ensures.value ∙ ruled o))
     (rulings_writable c.self.inside.payments (pricing c.args.prices) [] c.args.framed.now.header (reading.orders c.args.request.now)
     (c.orders_of_requests.ensures.orders (routes_of []) c.args.request.now c.args.framed.now.header (is_readable d)))
@@ -79,8 +81,8 @@ put_answer-requires-clause-writable c =
 ruled_new : (c : After-copy_of) → c.rule_all.new.draft.rulings.items ≡ rulings_on c.self.inside.payments (pricing c.args.prices) [] (reading.orders c.args.request.now)
 ruled_new c = c.in_ok-rule_all.ensures.made.ruled ∙ ap (rulings_on c.self.inside.payments (pricing c.args.prices) []) (ap orders_in (sym c.requires.parts))
 
-suits_new : (c : After-copy_of) → Suits (pricing c.args.prices) c.self.inside.settings.asks
-suits_new c = subst (λ (b : Book). Suits (pricing c.args.prices) b.settings.asks) (sym c.self.view_is) c.requires.suits
+suits_new : (c : After-copy_of) → Suits (pricing c.args.prices) c.self.inside.settings
+suits_new c = subst (λ (b : Book). Suits (pricing c.args.prices) b.settings) (sym c.self.view_is) c.requires.suits
 
 -- the rulings of the new row are those of its request at these prices
 by_prices : (c : After-copy_of) → c.rule_all.new.draft.rulings.items ≡ rulings_by (pricing c.args.prices) c.args.self.now c.args.id c.args.request.now
@@ -116,9 +118,9 @@ all_told c =
     (rulings_told l prices h some_payer payer_fits serial (prices_fit (c.orders_of_requests.ensures.prices (routes_of [])) h prices c.requires.prices) [] orders c.self.invariant.1.told
     (c.orders_of_requests.ensures.orders (routes_of []) c.args.request.now h reads) (ap (list_all serial_fits) (sym (ruled_new c)) ∙ fits c))
 
--- the row of these rulings
+-- the row of these rulings, and of what its answer carries
 abbrev made_row : (c : After-copy_of) → Row
-made_row c = record { id = c.args.id; request = c.args.request.now; rulings = c.rule_all.new.draft.rulings.items }
+made_row c = row_saying c.args.self.now c.args.id c.args.request.now c.rule_all.new.draft.rulings.items c.args.said.now
 
 -- so the row can be added
 stands_again : (c : After-copy_of) (plan : Plan) → with_kept (with_plan c.args.self.now plan) c.args.id c.args.request.now (kept_answer (made_row c)) ≡ Some (with_row (with_plan c.args.self.now plan) (made_row c))
@@ -128,7 +130,7 @@ stands_again c =
     ap (λ (rs : List Ruling). length rs) (ruled_new c)
     ∙ (length_rulings c.self.inside.payments (pricing c.args.prices) [] (reading.orders c.args.request.now)
     ∙ c.orders_of_requests.ensures.groups (routes_of []) c.args.request.now h (readable_alike (routes_of []) c.args.request.now ∙ c.requires.readable)) in
-    row_stands c.bytes_keep_laws.ensures c.args.self.now (made_row c) h c.requires.readable count (all_told c) (made_again c) (fits c)
+    row_stands c.bytes_keep_laws.ensures c.args.self.now (made_row c) h c.requires.readable count (all_told c) (made_again c) (fits c) c.args.said.now refl
 
 -- the entry of that row
 is_entry : (c : After-copy_of) → IsEntry c.args.self.now (made_row c) c.rule_all.new.draft.changes.items
@@ -137,15 +139,33 @@ is_entry c = record {
   fit = fits c;
   changed = c.in_ok-rule_all.ensures.made.changed ∙ ap (λ os. changes_by os c.rule_all.new.draft.rulings.items) (ap orders_in (sym c.requires.parts));
   told = all_told c;
+  carried = (c.args.said.now, refl);
   stands = stands_again c;
 }
+
+-- what the answer carries is what the row of the model has
+heard_is : (c : After-copy_of) → carried_of c.in_ok-carries.carries c.write_into.new.text.items ≡ carried_in c.args.self.now c.args.request.now c.rule_all.new.draft.rulings.items c.args.said.now
+heard_is c =
+    let h = c.args.framed.now.header in
+    let rulings = c.rule_all.new.draft.rulings.items in
+    c.in_ok-carries.ensures.kept
+    ∙ (ap (λ (x : Request). kept_text x Accepted c.as_slice-rulings.result.now c.heard.result.now) c.header.ensures
+    ∙ (ap (λ (rs : List Ruling). kept_text h Accepted rs c.heard.result.now) c.as_slice-rulings.ensures.value
+    ∙ (ap (kept_text h Accepted rulings) c.heard.ensures
+    ∙ (kept_where c.carrying_laws.ensures.plain h Accepted rulings c.args.said.now (carries_more c.args.self.now.settings)
+    ∙ ap (λ (o : Option Request). cond (carries_more c.args.self.now.settings) (kept_under o rulings c.args.said.now) []) (sym c.requires.readable)))))
 
 pub returns-clause-made : goal.returns-clause-made
 returns-clause-made c =
     let d = (goal.at.returns-clause-made c).After-copy_of in
-    let is : c.in_ok-copy_of.field-0 ≡ made_row d = c.in_ok-copy_of.ensures ∙ ap (λ (rs : List Ruling). let r : Row = record { id = c.args.id; request = c.args.request.now; rulings = rs } in r) c.as_slice-rulings.ensures.value in (
+    let carried : carried_of c.in_ok-carries.carries c.as_slice.result.now ≡ carried_in c.args.self.now c.args.request.now c.rule_all.new.draft.rulings.items c.args.said.now =
+    ap (carried_of c.in_ok-carries.carries) c.as_slice.ensures.value ∙ heard_is d in
+    let is : c.in_ok-copy_of.field-0 ≡ made_row d =
+    c.in_ok-copy_of.ensures
+    ∙ (ap (λ (rs : List Ruling). let r : Row = record { id = c.args.id; request = c.args.request.now; rulings = rs; carried = carried_of c.in_ok-carries.carries c.as_slice.result.now } in r) c.as_slice-rulings.ensures.value
+    ∙ ap (λ (t : List ℕ). let r : Row = record { id = c.args.id; request = c.args.request.now; rulings = c.rule_all.new.draft.rulings.items; carried = t } in r) carried) in (
       subst (λ (r : Row). IsEntry c.args.self.now r c.rule_all.new.draft.changes.items) (sym is) (is_entry d),
-      is ∙ ap (λ (rs : List Ruling). let r : Row = record { id = c.args.id; request = c.args.request.now; rulings = rs } in r) (by_prices d),
+      is ∙ ap (λ (rs : List Ruling). row_saying c.args.self.now c.args.id c.args.request.now rs c.args.said.now) (by_prices d),
     )
 
 pub returns-clause-advised : goal.returns-clause-advised
@@ -174,27 +194,44 @@ draft_told c =
     (rulings_told l prices h some_payer payer_fits serial (prices_fit (c.orders_of_requests.ensures.prices (routes_of [])) h prices c.requires.prices) [] orders c.self.invariant.1.told
     (c.orders_of_requests.ensures.orders (routes_of []) c.args.request.now h reads) (ap (list_all serial_fits) (sym (ruled c)) ∙ c.in_ok-rule_all.ensures.made.fit))
 
--- so its answer is short
-draft_short : (c : In_ok-rule_all) → length (answer_text c.args.framed.now.header Accepted c.rule_all.new.draft.rulings.items) ≤ 32768
-draft_short c =
+-- what is needed of an answer to it
+draft_count : (c : In_ok-rule_all) → length c.rule_all.new.draft.rulings.items ≡ c.args.framed.now.header.count
+draft_count c =
     let h = c.args.framed.now.header in
-    let reads = readable_alike (routes_of []) c.args.request.now ∙ c.requires.readable in
-    let count : length c.rule_all.new.draft.rulings.items ≡ h.count =
     ap (λ (rs : List Ruling). length rs) (ruled c)
     ∙ (length_rulings c.self.inside.payments (pricing c.args.prices) [] (reading.orders c.args.request.now)
-    ∙ c.orders_of_requests.ensures.groups (routes_of []) c.args.request.now h reads) in
-    let spelled = (c.bytes_keep_laws.ensures (routes_of [])).answers c.args.request.now h Accepted c.rule_all.new.draft.rulings.items reads count (draft_told c) tt in
-    spelled.short
+    ∙ c.orders_of_requests.ensures.groups (routes_of []) c.args.request.now h (readable_alike (routes_of []) c.args.request.now ∙ c.requires.readable))
+
+-- so its answer is short, whatever it carries
+draft_short : (c : In_ok-rule_all) (carried : List ℕ) → length (carrying_text c.args.framed.now.header Accepted c.rule_all.new.draft.rulings.items carried) ≤ 32768
+draft_short c carried =
+    let reads = readable_alike (routes_of []) c.args.request.now ∙ c.requires.readable in
+    ((c.bytes_keep_laws.ensures (routes_of [])).answers c.args.request.now c.args.framed.now.header Accepted c.rule_all.new.draft.rulings.items carried reads (draft_count c) (draft_told c) tt).short
+
+-- and what is kept of a text is carried as that text is
+draft_same : (c : In_ok-rule_all) (said : List ℕ) → let h = c.args.framed.now.header in
+    carrying_text h Accepted c.rule_all.new.draft.rulings.items (kept_text h Accepted c.rule_all.new.draft.rulings.items said) ≡ carrying_text h Accepted c.rule_all.new.draft.rulings.items said
+draft_same c said =
+    let h = c.args.framed.now.header in
+    let rulings = c.rule_all.new.draft.rulings.items in
+    let reads = readable_alike (routes_of []) c.args.request.now ∙ c.requires.readable in
+    subst (λ (o : Option Request). carrying_text h Accepted rulings (kept_under o rulings said) ≡ carrying_text h Accepted rulings said) c.requires.readable
+    ((c.bytes_keep_laws.ensures (routes_of [])).carried_back c.args.request.now h rulings said reads (draft_count c) (draft_told c)).same
 
 pub copy_of-requires : goal.copy_of-requires
 copy_of-requires c =
     let o = (goal.at.copy_of-requires c).In_ok-rule_all in
     let h = c.args.framed.now.header in
     let rulings = c.rule_all.new.draft.rulings.items in
-    let text : c.as_slice.result.now ≡ answer_text h Accepted rulings =
-    c.as_slice.ensures.value ∙ (c.in_ok-put_answer.ensures.text
-    ∙ ap (λ (t : List ℕ). t ++ answer_text c.header.result.now Accepted c.as_slice-rulings.result.now) c.clear.ensures.items
-    ∙ (ap (λ (x : Request). answer_text x Accepted c.as_slice-rulings.result.now) c.header.ensures ∙ ap (λ (rs : List Ruling). answer_text h Accepted rs) c.as_slice-rulings.ensures.value)) in
-    let short : length c.as_slice.result.now ≤ 32768 = subst (λ (t : List ℕ). length t ≤ 32768) (sym text) (draft_short o) in
-    subst (λ (rs : List Ruling). IsAnswered c.args.request.now rs c.as_slice.result.now) (sym c.as_slice-rulings.ensures.value)
-    (record { header = h; reads = c.requires.readable; text = text; short = short })
+    let said = c.heard.result.now in
+    let text : c.as_slice.result.now ≡ carrying_text h Accepted rulings said =
+    c.as_slice.ensures.value ∙ (c.in_ok-carries.ensures.text
+    ∙ (ap (λ (x : Request). carrying_text x Accepted c.as_slice-rulings.result.now said) c.header.ensures ∙ ap (λ (rs : List Ruling). carrying_text h Accepted rs said) c.as_slice-rulings.ensures.value)) in
+    let kept : carried_of c.in_ok-carries.carries c.as_slice.result.now ≡ kept_text h Accepted rulings said =
+    ap (carried_of c.in_ok-carries.carries) c.as_slice.ensures.value ∙ (c.in_ok-carries.ensures.kept
+    ∙ (ap (λ (x : Request). kept_text x Accepted c.as_slice-rulings.result.now said) c.header.ensures ∙ ap (λ (rs : List Ruling). kept_text h Accepted rs said) c.as_slice-rulings.ensures.value)) in
+    let again : c.as_slice.result.now ≡ carrying_text h Accepted rulings (carried_of c.in_ok-carries.carries c.as_slice.result.now) =
+    text ∙ (sym (draft_same o said) ∙ ap (carrying_text h Accepted rulings) (sym kept)) in
+    let short : length c.as_slice.result.now ≤ 32768 = subst (λ (t : List ℕ). length t ≤ 32768) (sym text) (draft_short o said) in
+    subst (λ (rs : List Ruling). IsAnswered c.args.request.now rs (carried_of c.in_ok-carries.carries c.as_slice.result.now) c.as_slice.result.now) (sym c.as_slice-rulings.ensures.value)
+    (record { header = h; reads = c.requires.readable; text = again; short = short })

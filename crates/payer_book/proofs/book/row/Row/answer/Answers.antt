@@ -6,10 +6,10 @@ use Rattle.payer_book.proofs.book.row.Row.answer.Goals as goal
 
 pub returns-clause-value : goal.returns-clause-value
 returns-clause-value c routes =
-    let is = subst (λ (r : Row). IsAnswered r.request r.rulings c.self.inside.texts.answer) c.self.view_is c.self.invariant in
+    let is = subst (λ (r : Row). IsAnswered r.request r.rulings r.carried c.self.inside.texts.answer) c.self.view_is c.self.invariant in
     ap (λ t. Some t) c.answer.ensures ∙ answered_row routes c.args.self.now c.self.inside.texts.answer is
 
 pub returns-clause-text : goal.returns-clause-text
 returns-clause-text c =
-    let is = subst (λ (r : Row). IsAnswered r.request r.rulings c.self.inside.texts.answer) c.self.view_is c.self.invariant in
+    let is = subst (λ (r : Row). IsAnswered r.request r.rulings r.carried c.self.inside.texts.answer) c.self.view_is c.self.invariant in
     c.answer.ensures ∙ kept_text c.args.self.now c.self.inside.texts.answer is

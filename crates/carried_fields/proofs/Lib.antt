@@ -1,0 +1,9 @@
+pub mod WellFramed
+pub mod Further
+pub mod SameRulings
+pub mod MergedAgain
+pub mod MergedFramed
+pub mod OwnFramed
+pub mod CarriedTexts
+pub mod Appended
+pub mod Counted

@@ -1,0 +1,11 @@
+use Rattle.std.proofs.Common.{◌≡◌, ◌++◌, length}
+use Rattle.d0_segments.specs.Pieces.{shared_of}
+use Rattle.carried_fields.proofs.Appended.{further_in}
+use Rattle.carried_fields.proofs.fields.put_further_fields.Given as goal
+
+-- what is written, and then what is left, is all
+abbrev pub invariant-loop-segment : goal.invariant-loop-segment
+invariant-loop-segment l = l.text.items ++ further_in l.id (shared_of l.rest.bytes.now) ≡ l.fn.text.items ++ further_in l.id (shared_of l.fn.group.bytes.now)
+
+abbrev pub decreases-loop-segment : goal.decreases-loop-segment
+decreases-loop-segment l = length l.rest.bytes.now

@@ -1,0 +1,36 @@
+//! Names of fields that a book writes itself.
+
+ghost use Rattle.std.specs.Prelude.{◌≡◌};
+ghost use Rattle.std.specs.Str.{bytes_eq};
+ghost use Rattle.carried_fields.specs.Merging.{is_own};
+
+/// Whether two names are the same.
+#[inline(always)]
+pub fn is_same(a: [u8; 2], b: [u8; 2]) -> bool
+    ensures { result ≡ bytes_eq a b }
+{
+    u16::from_le_bytes(a) == u16::from_le_bytes(b)
+}
+
+/// Whether a book writes the field of this name itself, in a segment of this identification.
+pub fn is_own(id: [u8; 2], name: [u8; 2]) -> bool
+    ensures { result ≡ is_own id name }
+{
+    if is_same(id, *b"21") {
+        return is_same(name, *b"AN")
+            || is_same(name, *b"F3")
+            || is_same(name, *b"FA")
+            || is_same(name, *b"FB")
+            || is_same(name, *b"4F");
+    }
+    if is_same(id, *b"22") {
+        return is_same(name, *b"EM") || is_same(name, *b"D2");
+    }
+    if is_same(id, *b"23") {
+        return is_same(name, *b"F5")
+            || is_same(name, *b"F6")
+            || is_same(name, *b"F7")
+            || is_same(name, *b"F9");
+    }
+    false
+}

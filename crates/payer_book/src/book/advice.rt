@@ -1,0 +1,28 @@
+//! What a payer's own system says to a request.
+
+ghost use Rattle.std.specs.Prelude.{◌≡◌};
+ghost use Rattle.claim_model.specs.Book.{unadvised};
+ghost use Rattle.claim_model.specs.Laws.{AdvisesWell};
+ghost use Rattle.payer_book.specs.Advices.{advice_seen};
+
+use claim_profile::Ruling;
+
+/// The rulings of an advice, and the bytes in which they stand.
+#[derive(Clone, Copy)]
+pub(crate) struct Advice<'a> {
+    pub(crate) rulings: &'a [Ruling],
+    pub(crate) text: &'a [u8],
+}
+
+impl Advice<'_> {
+    /// No advice.
+    pub(crate) fn none() -> Advice<'static>
+        ensures value { advice_seen result ≡ unadvised }
+        ensures well { AdvisesWell (advice_seen result).rulings }
+    {
+        Advice {
+            rulings: &[],
+            text: &[],
+        }
+    }
+}
