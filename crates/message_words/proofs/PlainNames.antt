@@ -9,11 +9,13 @@ use Rattle.message_words.specs.declared.marks.Mark.TheVariants as mark
 use Rattle.message_words.specs.declared.part.PartKind.{PartKind}
 use Rattle.message_words.specs.declared.part.PartKind.TheVariants as kind
 use Rattle.message_words.specs.Encoded.{is_letter}
-use Rattle.message_words.specs.FieldTitles.{Titles, titles_of}
+use Rattle.message_words.specs.FieldTitles.{Titles, titles_of, named_in, or_next}
 use Rattle.message_words.specs.Naming.{mark_names}
 use Rattle.message_words.specs.Rows.{id_in, names_in, names_or}
-use Rattle.message_words.specs.Unused.{claim_or_answer_field, named_in, or_next, unused_field}
+use Rattle.message_words.specs.Unused.{claim_or_answer_field, unused_field}
 use Rattle.message_words.specs.Unused as unused
+use Rattle.message_words.specs.AnswerFields.{answer_field}
+use Rattle.message_words.specs.AnswerFields as answers
 use Rattle.message_words.proofs.Encoded.{both_true}
 
 abbrev pub IsPlain : List ℕ → Type 0
@@ -86,14 +88,24 @@ or_plain : (a b : Option Titles) → PlainIf a → PlainIf b → PlainIf (or_nex
 or_plain (Some t) b p q = p
 or_plain None b p q = q
 
+answers_plain : (letters : List ℕ) → PlainIf (answer_field letters)
+unfolding answer_field answers.message_fields answers.preferred_fields answers.paid_fields answers.shared_fields answers.reviewed_fields answers.insurer_fields
+answers_plain letters =
+    or_plain (named_in answers.message_fields letters) _ (named_plain answers.message_fields letters refl)
+    (or_plain (named_in answers.preferred_fields letters) _ (named_plain answers.preferred_fields letters refl)
+    (or_plain (named_in answers.paid_fields letters) _ (named_plain answers.paid_fields letters refl)
+    (or_plain (named_in answers.shared_fields letters) _ (named_plain answers.shared_fields letters refl)
+    (or_plain (named_in answers.reviewed_fields letters) _ (named_plain answers.reviewed_fields letters refl)
+    (named_plain answers.insurer_fields letters refl)))))
+
 later_plain : (letters : List ℕ) → PlainIf (claim_or_answer_field letters)
-unfolding claim_or_answer_field unused.dispensed_fields unused.terms_fields unused.pricing_fields unused.clinical_fields unused.answers_fields
+unfolding claim_or_answer_field unused.dispensed_fields unused.terms_fields unused.pricing_fields unused.clinical_fields
 later_plain letters =
     or_plain (named_in unused.dispensed_fields letters) _ (named_plain unused.dispensed_fields letters refl)
     (or_plain (named_in unused.terms_fields letters) _ (named_plain unused.terms_fields letters refl)
     (or_plain (named_in unused.pricing_fields letters) _ (named_plain unused.pricing_fields letters refl)
     (or_plain (named_in unused.clinical_fields letters) _ (named_plain unused.clinical_fields letters refl)
-    (named_plain unused.answers_fields letters refl))))
+    (answers_plain letters))))
 
 unused_plain : (letters : List ℕ) → PlainIf (unused_field letters)
 unfolding unused_field unused.patient_fields unused.providers_fields unused.insurance_fields unused.other_payers_fields unused.workers_compensation_fields

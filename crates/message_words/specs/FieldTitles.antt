@@ -1,5 +1,6 @@
 -- How the standard calls the fields that the product knows.
-use Rattle.std.specs.Prelude.{ℕ, List, Bool, true, false, codes}
+use Rattle.std.specs.Prelude.{ℕ, List, [], ◌∷◌, Bool, true, false, drop, codes, Option, None, Some, if◌then◌else◌}
+use Rattle.std.specs.Str.{bytes_eq}
 use Rattle.message_words.specs.declared.names.FieldName.{FieldName}
 use Rattle.message_words.specs.declared.names.FieldName.TheVariants as field
 use Rattle.message_words.specs.declared.names.Named.{Named}
@@ -16,6 +17,16 @@ titles number name key = record { number = number; name = name; key = key }
 -- names of the code, without their places in memory
 abbrev pub titles_seen : Named → Titles
 titles_seen n = titles n.number.now n.name.now n.key.now
+
+-- the first of these fields whose number ends with two letters, after three digits and a dash
+abbrev pub named_in : List Titles → List ℕ → Option Titles
+named_in [] letters = None
+named_in (t ∷ ts) letters = if bytes_eq (drop 4 t.number) letters then Some t else named_in ts letters
+
+-- the first that is there
+abbrev pub or_next : Option Titles → Option Titles → Option Titles
+or_next (Some t) next = Some t
+or_next None next = next
 
 -- the line of each field in the table of fields
 abbrev pub titles_of : FieldName → Titles

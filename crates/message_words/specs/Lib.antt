@@ -17,6 +17,7 @@ pub mod Encoded
 pub mod Figures
 pub mod Meanings
 pub mod Members
+pub mod AnswerFields
 pub mod Unused
 pub mod Rows
 pub mod Sayings

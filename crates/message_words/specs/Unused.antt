@@ -1,7 +1,8 @@
 -- The fields and segments of the standard that this profile carries and does not use.
-use Rattle.std.specs.Prelude.{ℕ, List, [], ◌∷◌, drop, codes, Option, None, Some, if◌then◌else◌}
+use Rattle.std.specs.Prelude.{ℕ, List, [], ◌∷◌, codes, Option, if◌then◌else◌}
 use Rattle.std.specs.Str.{bytes_eq}
-use Rattle.message_words.specs.FieldTitles.{Titles, titles}
+use Rattle.message_words.specs.FieldTitles.{Titles, titles, named_in, or_next}
+use Rattle.message_words.specs.AnswerFields.{answer_field}
 
 -- ---- fields, by the segments in which they mostly stand
 
@@ -175,33 +176,6 @@ clinical_fields =
     ∷ titles (codes "492-WE") (codes "diagnosis code qualifier") (codes "diagnosis_code_qualifier")
     ∷ titles (codes "424-DO") (codes "diagnosis code") (codes "diagnosis_code") ∷ []
 
--- the segments of an answer, AM20 to AM25
-unfoldable pub answers_fields : List Titles
-answers_fields =
-    titles (codes "504-F4") (codes "message") (codes "message")
-    ∷ titles (codes "526-FQ") (codes "additional message information") (codes "additional_message_information")
-    ∷ titles (codes "130-UF") (codes "additional message count") (codes "additional_message_count")
-    ∷ titles (codes "132-UH") (codes "additional message qualifier") (codes "additional_message_qualifier")
-    ∷ titles (codes "549-7F") (codes "help desk phone qualifier") (codes "help_desk_phone_qualifier")
-    ∷ titles (codes "550-8F") (codes "help desk phone number") (codes "help_desk_phone_number")
-    ∷ titles (codes "546-4F") (codes "reject field occurrence") (codes "reject_field_occurrence")
-    ∷ titles (codes "518-FI") (codes "amount of copay") (codes "amount_of_copay")
-    ∷ titles (codes "517-FH") (codes "applied to periodic deductible") (codes "applied_to_periodic_deductible")
-    ∷ titles (codes "522-FM") (codes "basis of reimbursement") (codes "basis_of_reimbursement")
-    ∷ titles (codes "523-FN") (codes "attributed to sales tax") (codes "attributed_to_sales_tax")
-    ∷ titles (codes "566-J5") (codes "other payer amount recognized") (codes "other_payer_amount_recognized")
-    ∷ titles (codes "545-2F") (codes "network reimbursement ID") (codes "network_reimbursement_id") ∷ []
-
--- the first of these fields whose number ends with two letters, after three digits and a dash
-abbrev pub named_in : List Titles → List ℕ → Option Titles
-named_in [] letters = None
-named_in (t ∷ ts) letters = if bytes_eq (drop 4 t.number) letters then Some t else named_in ts letters
-
--- the first that is there
-abbrev pub or_next : Option Titles → Option Titles → Option Titles
-or_next (Some t) next = Some t
-or_next None next = next
-
 -- the field of the standard that two letters name, where it is one that this profile does not use
 unfoldable pub claim_or_answer_field : List ℕ → Option Titles
 claim_or_answer_field letters =
@@ -209,7 +183,7 @@ claim_or_answer_field letters =
     (or_next (named_in terms_fields letters)
     (or_next (named_in pricing_fields letters)
     (or_next (named_in clinical_fields letters)
-    (named_in answers_fields letters))))
+    (answer_field letters))))
 
 unfoldable pub unused_field : List ℕ → Option Titles
 unused_field letters =

@@ -2,6 +2,7 @@
 //! rejected, and both as lines of text or as JSON.
 #![tactic(auto)]
 
+mod answer_fields;
 mod answer_lines;
 mod books;
 mod cause_lines;

@@ -1,4 +1,4 @@
-//! Fields of the standard that this profile carries and does not use, by number and name.
+//! Fields of requests that this profile carries and does not use, by number and name.
 
 use crate::names::Called;
 
@@ -442,57 +442,4 @@ pub(crate) static CLINICAL: [Called; 21] = [
         "diagnosis_code_qualifier",
     ),
     ("424-DO", "diagnosis code", "diagnosis_code"),
-];
-
-/// The segments of an answer, AM20 to AM25.
-pub(crate) static ANSWERS: [Called; 13] = [
-    ("504-F4", "message", "message"),
-    (
-        "526-FQ",
-        "additional message information",
-        "additional_message_information",
-    ),
-    (
-        "130-UF",
-        "additional message count",
-        "additional_message_count",
-    ),
-    (
-        "132-UH",
-        "additional message qualifier",
-        "additional_message_qualifier",
-    ),
-    (
-        "549-7F",
-        "help desk phone qualifier",
-        "help_desk_phone_qualifier",
-    ),
-    ("550-8F", "help desk phone number", "help_desk_phone_number"),
-    (
-        "546-4F",
-        "reject field occurrence",
-        "reject_field_occurrence",
-    ),
-    ("518-FI", "amount of copay", "amount_of_copay"),
-    (
-        "517-FH",
-        "applied to periodic deductible",
-        "applied_to_periodic_deductible",
-    ),
-    ("522-FM", "basis of reimbursement", "basis_of_reimbursement"),
-    (
-        "523-FN",
-        "attributed to sales tax",
-        "attributed_to_sales_tax",
-    ),
-    (
-        "566-J5",
-        "other payer amount recognized",
-        "other_payer_amount_recognized",
-    ),
-    (
-        "545-2F",
-        "network reimbursement ID",
-        "network_reimbursement_id",
-    ),
 ];

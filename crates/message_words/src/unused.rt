@@ -3,13 +3,15 @@
 ghost use Rattle.std.specs.Prelude.{◌≡◌, drop, map};
 ghost use Rattle.std.specs.Option.{option_map};
 ghost use Rattle.std.specs.Str.{bytes_eq};
-ghost use Rattle.message_words.specs.FieldTitles.{titles, titles_seen};
-ghost use Rattle.message_words.specs.Unused.{claim_or_answer_field, named_in, unused_field, patient_fields, providers_fields, insurance_fields, other_payers_fields, workers_compensation_fields, dispensed_fields, terms_fields, pricing_fields, clinical_fields, answers_fields};
+ghost use Rattle.message_words.specs.FieldTitles.{titles, titles_seen, named_in};
+ghost use Rattle.message_words.specs.AnswerFields.{answer_field};
+ghost use Rattle.message_words.specs.Unused.{claim_or_answer_field, unused_field, patient_fields, providers_fields, insurance_fields, other_payers_fields, workers_compensation_fields, dispensed_fields, terms_fields, pricing_fields, clinical_fields};
 
+use crate::answer_fields::answer_field;
 use crate::names::{Called, Named, named_by};
 use crate::part_rows::behind;
 use crate::standard::{
-    ANSWERS, CLINICAL, DISPENSED, INSURANCE, OTHER_PAYERS, PATIENT, PRICING, PROVIDERS, TERMS,
+    CLINICAL, DISPENSED, INSURANCE, OTHER_PAYERS, PATIENT, PRICING, PROVIDERS, TERMS,
     WORKERS_COMPENSATION,
 };
 
@@ -53,7 +55,7 @@ fn claim_or_answer_field(letters: &[u8]) -> Option<Named>
     if let Some(named) = of_clinical(letters) {
         return Some(named);
     }
-    of_answers(letters)
+    answer_field(letters)
 }
 
 /// The field of PATIENT that two letters name.
@@ -128,16 +130,8 @@ fn of_clinical(letters: &[u8]) -> Option<Named>
     named_in(CLINICAL.as_slice(), letters)
 }
 
-/// The field of ANSWERS that two letters name.
-#[tactic(auto, unfolding(crate::specs::Unused::answers_fields))]
-fn of_answers(letters: &[u8]) -> Option<Named>
-    ensures { option_map titles_seen result ≡ named_in answers_fields letters.now }
-{
-    named_in(ANSWERS.as_slice(), letters)
-}
-
 /// The first field of a table whose number ends with these letters.
-fn named_in(table: &[Called], letters: &[u8]) -> Option<Named>
+pub(crate) fn named_in(table: &[Called], letters: &[u8]) -> Option<Named>
     ensures { option_map titles_seen result ≡ named_in (map (λ c. titles c.0.now c.1.now c.2.now) table.now) letters.now }
 {
     for called in table {

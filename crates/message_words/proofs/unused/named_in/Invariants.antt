@@ -1,6 +1,5 @@
 use Rattle.std.proofs.Common.{◌≡◌, drop, map}
-use Rattle.message_words.specs.FieldTitles.{titles}
-use Rattle.message_words.specs.Unused.{named_in}
+use Rattle.message_words.specs.FieldTitles.{titles, named_in}
 use Rattle.message_words.proofs.unused.named_in.Given as goal
 
 -- no field so far ends with the letters
