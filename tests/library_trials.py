@@ -171,12 +171,16 @@ class Trials(unittest.TestCase):
             .replace(b"\x1e\x1cAM22", message + b"\x1e\x1cAM22")
         )
         self.assertEqual(ruled(REQUEST, paid), paid)
+        said = Ruling("paid", "0001000000000001", 123456, 5000, 150, 500, 4650, messages=("OPEN UNTIL TEN",))
+        self.assertEqual((Answer.read(paid), Answer((said,)).to(REQUEST)), (Answer((said,)), paid))
         reversal = bytes(BILLING.reversal())
         denied = Answer((Ruling("rejected", codes=("86",)),)).to(reversal) + message
         self.assertEqual(ruled(reversal, denied), denied)
         self.assertEqual([one.reversed_by for one in payer.payments()], [None])
         allowed = Answer((Ruling("reversed", None, 123456),)).to(reversal)
-        self.assertEqual(ruled(reversal, allowed.replace(b"\x1cANA", b"\x1cANS")), allowed)
+        again = Answer((Ruling("reversed", None, 123456, again=True),)).to(reversal)
+        self.assertEqual(again, allowed.replace(b"\x1cANA", b"\x1cANS"))
+        self.assertEqual(ruled(reversal, again), allowed)
         self.assertEqual(([one.reversed_by for one in payer.payments()], pharmacy.payments()), ([(1, 3)], []))
         payer.close()
         again = self.opened("pr1", asking)
@@ -466,6 +470,17 @@ class Trials(unittest.TestCase):
         for text in (f"{front}P{behind}", f"{front}X", "D0", "", REQUEST.decode()):
             with self.assertRaises(ValueError):
                 Answer.read(text.encode())
+        told = Answer(
+            (Ruling("rejected", codes=("79",), messages=("TOO SOON", "x" * 40)), Ruling("rejected", codes=("70",)))
+        )
+        first = f"R\x1cFA1\x1cFB79\x1cUF2\x1cUH01\x1cFQTOO SOON\x1cUH02\x1cFQ{'x' * 40}"
+        text = f"{front}{first}\x1d\x1e\x1cAM21\x1cANR\x1cFA1\x1cFB70".replace("D0B11", "D0B12").encode()
+        self.assertEqual((told.to(REQUEST), Answer.read(text)), (text, told))
+        for wrong in (("",), ("x" * 41,), ("x\x1cANP",), ("\N{EURO SIGN}",), ("x",) * 26):
+            with self.assertRaises(ValueError):
+                Answer((Ruling("rejected", codes=("79",), messages=wrong),)).to(REQUEST)
+        with self.assertRaises(ValueError):
+            Answer((Ruling("paid", *paid, again=True),)).to(REQUEST)
 
     def test_wrong_fields(self):
         def header(**change):

@@ -37,17 +37,15 @@ def follow() -> None:
 
 def rejected(request: bytes, code: str, message: str = "") -> bytes:
     """What is told of a transaction that is rejected: a code, and behind it a message (526-FQ)."""
-    more = f"\x1cUF1\x1cUH01\x1cFQ{message}".encode() if message else b""
-    return Answer((Ruling("rejected", codes=(code,)),)).to(request)[HEAD:] + more
+    return Answer((Ruling("rejected", codes=(code,), messages=(message,) if message else ()),)).to(request)[HEAD:]
 
 
 def approved(request: bytes, claim: dict[str, Any], pharmacy: int, day: int) -> bytes:
     """What is told of a reversal: that it is approved (`A`), or that one of the same payment was approved before (`S`)."""
     find = "SELECT authorization FROM paid WHERE (pharmacy, prescription, day) = (?, ?, ?) AND fill = COALESCE(?, fill)"
     payment = one(find, pharmacy, claim["prescription"], day, claim.get("fill"))
-    is_again = payment and not DATABASE.execute("INSERT OR IGNORE INTO approved VALUES (?)", payment).rowcount
-    told = Answer((Ruling("reversed", None, claim["prescription"]),)).to(request)[HEAD:]
-    return told.replace(b"\x1cANA", b"\x1cANS") if is_again else told
+    again = bool(payment and not DATABASE.execute("INSERT OR IGNORE INTO approved VALUES (?)", payment).rowcount)
+    return Answer((Ruling("reversed", None, claim["prescription"], again=again),)).to(request)[HEAD:]
 
 
 def ruled(request: bytes, claim: dict[str, Any], day: int, is_overridden: bool) -> tuple[bytes, int | None]:

@@ -183,6 +183,11 @@ class Ruling:
     """Total paid, 509-F9: of what a plan pays cost and fee, less the copay."""
     codes: tuple[str, ...] = ()
     """Reject codes, 511-FB: two or three digits and capital letters each."""
+    messages: tuple[str, ...] = ()
+    """What the payer's own system says beside that (526-FQ): 25 texts at most, of 1 to 40 letters each. They reach the pharmacy where a
+    network's answers are wide."""
+    again: bool = False
+    """Of a reversal, as a payer's own system may tell it: it was approved before (112-AN, `S`). No answer of a book says so."""
 
 
 @dataclass(frozen=True)
@@ -200,10 +205,13 @@ class Answer:
         if told["kind"] != "answer" or not found or len(found) != len(told["findings"]):
             raise ValueError("no answer")
         names = ("ruling", "authorization", "prescription", "cost", "fee", "copay", "total")
+        said = _messages_in(told["parts"])
         return cls(
             tuple(
-                Ruling(**{name: one.get(name) for name in names}, codes=tuple(one.get("codes", "").split()))
-                for one in found
+                Ruling(
+                    **{name: one.get(name) for name in names}, codes=tuple(one.get("codes", "").split()), messages=texts
+                )
+                for one, texts in zip(found, said)
             )
         )
 
@@ -212,15 +220,38 @@ class Answer:
         may be left out, and the authorization, since a payer's node gives its own. ValueError where no answer reads back so.
         """
         head = b"D0%s%dA%s" % (request[8:10], len(self.rulings), request[21:46])
-        told = head + b"".join(_group(_whole(one)) for one in self.rulings)
-        if Answer.read(told) != Answer(tuple(_whole(one) for one in self.rulings)):
+        whole = tuple(map(_whole, self.rulings))
+        # An answer of a book does not say that a reversal was approved before, so it is read as if it were approved now.
+        once = Answer(tuple(replace(one, again=False) if one.ruling == "reversed" else one for one in whole))
+        if Answer.read(head + b"".join(map(_group, once.rulings))) != once:
             raise ValueError("no answer has these rulings")
-        return told
+        return head + b"".join(map(_group, whole))
 
 
 # How an answer tells each ruling (112-AN), and the authorization that stands where there is none.
 _STATUS = {"paid": b"P", "duplicate": b"D", "reversed": b"A", "rejected": b"R"}
 _ANY_AUTHORIZATION = "0001000000000001"
+# The most messages of a transaction (130-UF), and the most letters of one.
+_MOST_MESSAGES, _MOST_LETTERS = 25, 40
+
+
+def _messages_in(parts: list[dict[str, Any]]) -> list[tuple[str, ...]]:
+    """The messages of each transaction of an answer."""
+    found: list[list[str]] = []
+    for part in parts:
+        if "transaction" in part:
+            found.append([])
+        elif found and part.get("field") == "526-FQ":
+            found[-1].append(unprinted(part["value"].encode("ascii")).decode("latin-1"))
+    return [tuple(texts) for texts in found]
+
+
+def _told_messages(texts: tuple[str, ...]) -> bytes:
+    """How an answer tells messages: how many there are, and each behind its qualifier."""
+    if len(texts) > _MOST_MESSAGES or not all(1 <= len(text) <= _MOST_LETTERS for text in texts):
+        raise ValueError("no answer has these messages")
+    told = (b"\x1cUH%02d\x1cFQ%s" % (place, text.encode("latin-1")) for place, text in enumerate(texts, 1))
+    return b"\x1cUF%d" % len(texts) + b"".join(told) if texts else b""
 
 
 def _whole(ruling: Ruling) -> Ruling:
@@ -240,10 +271,15 @@ def _amount(cents: Optional[int]) -> bytes:
 
 def _group(one: Ruling) -> bytes:
     """The group of a transaction."""
-    told = b"\x1d\x1e\x1cAM21\x1cAN" + _STATUS[one.ruling]
+    told, said = b"\x1d\x1e\x1cAM21\x1cAN" + (b"S" if one.again else _STATUS[one.ruling]), _told_messages(one.messages)
     if one.ruling == "rejected":
-        return told + b"\x1cFA%d" % len(one.codes) + b"".join(b"\x1cFB" + code.encode("ascii") for code in one.codes)
-    told += b"\x1cF3%s\x1e\x1cAM22\x1cEM1\x1cD2%d" % ((one.authorization or "").encode("ascii"), one.prescription or 0)
+        codes = b"".join(b"\x1cFB" + code.encode("ascii") for code in one.codes)
+        return told + b"\x1cFA%d" % len(one.codes) + codes + said
+    told += b"\x1cF3%s%s\x1e\x1cAM22\x1cEM1\x1cD2%d" % (
+        (one.authorization or "").encode("ascii"),
+        said,
+        one.prescription or 0,
+    )
     if one.ruling == "reversed":
         return told
     amounts = ((b"F5", one.copay), (b"F6", one.cost), (b"F7", one.fee), (b"F9", one.total))
