@@ -9,8 +9,6 @@ mod laws;
 mod merging;
 mod names;
 mod segments;
-#[cfg(test)]
-mod tests;
 
 pub use carrying::write_carrying;
 pub use laws::carrying_laws;
