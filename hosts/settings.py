@@ -8,6 +8,7 @@ import re
 import sys
 import tomllib
 from array import array
+from collections.abc import Iterable
 from typing import Any, NoReturn
 
 # The status of a program whose settings are refused.
@@ -25,8 +26,12 @@ def refuse(why: str) -> NoReturn:
 class Settings:
     """The nodes of a settings file, and the ways between them."""
 
-    def __init__(self, given: dict[str, Any]) -> None:
-        self._given = given
+    def __init__(self, given: dict[str, Any], ways: Iterable[tuple[range, str]] = ()) -> None:
+        self._given, self._ways = given, tuple(ways)
+
+    def with_ways(self, ways: Iterable[tuple[range, str]]) -> Settings:
+        """The same settings, where pharmacies of these numbers also send to a switch: their rules of retries name it."""
+        return Settings(self._given, ways)
 
     @classmethod
     def read(cls, name: str) -> Settings:
@@ -60,8 +65,8 @@ class Settings:
         return [node for node in self.nodes() if node.startswith("ph")]
 
     def addressees(self, node: str) -> list[str]:
-        """To whom a node sends: a pharmacy to its switches, a switch to the payers of routes and the pharmacies that name it, a payer
-        to the switches that some pharmacy names."""
+        """To whom a node sends: a pharmacy to the switches that it names, here or by its rule of retries, a switch to the payers of
+        routes and the pharmacies that name it, a payer to the switches that some pharmacy names."""
         if node.startswith("ph"):
             return self._named[int(node[2:]) - 1]
         if node.startswith("pr"):
@@ -73,8 +78,9 @@ class Settings:
         """The switches that each pharmacy names; those who name the same share one list."""
         lists: dict[frozenset[str], list[str]] = {}
         named = []
-        for one in self._given.get("pharmacy", []):
+        for number, one in enumerate(self._given.get("pharmacy", []), 1):
             switches = frozenset(f"sw{it}" for it in one.get("nodes", []))
+            switches = switches.union(switch for numbers, switch in self._ways if number in numbers)
             if switches not in lists:
                 lists[switches] = sorted(switches)
             named.append(lists[switches])

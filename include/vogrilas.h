@@ -221,6 +221,8 @@ void vogrilas_close_settings(vogrilas_settings *settings);
 **     adjudicate FROM ADVICE TEXT    of a payer that asks: the same, with its own system's answer to the request in the packet
 **     plan PRODUCT PRICE     of a payer: another price
 **     terms FEE COPAY        of a payer: another fee and another copay, in cents
+**     retry SWITCHES AGAIN TRIES    of a pharmacy: the switches that it tries in turn, as sw1,sw3; after how many ticks an entry is
+**                            sent again, and how often to one switch
 **     stop / start           the node stops, and starts again from what it keeps
 **     answer NUMBER          of a pharmacy: what is known of this entry
 **
@@ -229,7 +231,7 @@ void vogrilas_close_settings(vogrilas_settings *settings);
 **
 **     send TO TEXT           a packet for this node. `take OWN TEXT` is the line that it is there, with the sender's name
 **     number N               the call was made, and its entry has this number (submit)
-**     ok                     the call was made (tick, take, adjudicate, plan, stop, start)
+**     ok                     the call was made (tick, take, adjudicate, plan, terms, retry, stop, start)
 **     known N                the name has an entry already, of this request and with this number: nothing has changed
 **     idle                   a tick without an open entry: nothing has changed, and there is no record
 **     answer TEXT / open / none      to the question

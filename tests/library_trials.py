@@ -207,6 +207,11 @@ class Trials(unittest.TestCase):
             lambda: payer.plan(b"00093721410", "1"),
             lambda: payer.terms(1, True),
             lambda: payer.terms("1", 1),
+            lambda: pharmacy.retry(1, 1, 1),
+            lambda: pharmacy.retry(["sw1"], 1, 1),
+            lambda: pharmacy.retry([True], 1, 1),
+            lambda: pharmacy.retry([1], "1", 1),
+            lambda: pharmacy.retry([1], 1, 1.5),
             lambda: pharmacy.answer("1"),
             lambda: pharmacy.request(None),
             lambda: FileNode("settings", "ph1", self.folder / "other.log"),
@@ -308,6 +313,33 @@ class Trials(unittest.TestCase):
         self.assertEqual(payer.plan(b"00093721410", None), vogrilas.Said(()))
         self.assertEqual(payer.plan(b"a b", 1), vogrilas.Said(()))
         self.assertEqual(payer.terms(150, 1000), vogrilas.Said(()))
+
+    def test_rules_of_retries(self):
+        switch = b"[[switch]]\ncap = 64\n"
+        settings = SETTINGS.replace(switch, 2 * switch)
+        pharmacy, payer = (self.opened(name, settings) for name in ("ph1", "pr1"))
+        sent = pharmacy.submit(REQUEST).sent
+        self.assertEqual(pharmacy.retry((2, 1), 3, 2), vogrilas.Said(()))
+        refused = [(((3,), 1, 1), "BadRule"), (((2, 0), 1, 1), "BadRule"), (((1,), 0, 1), "BadRule")]
+        refused += [(((1,), 1, 1001), "BadRule"), (((), 1, 1), "Line"), (((1,), -1, 1), "Line")]
+        for rule, name in refused:
+            with self.subTest(rule), self.assertRaises(Refused) as caught:
+                pharmacy.retry(*rule)
+            self.assertEqual(caught.exception.name, name)
+        # The entry waits for three ticks, and is then sent twice to each switch, as far as it is open.
+        ticks = [pharmacy.tick().sent for _ in range(12)]
+        self.assertEqual([len(one) for one in ticks], [0, 0, 1] * 4)
+        self.assertEqual([one[0].to for one in ticks if one], ["sw2", "sw2", "sw1", "sw1"])
+        self.assertEqual({one[0].data for one in ticks if one}, {sent[0].data})
+        pharmacy.stop()
+        for node, name in ((pharmacy, "Down"), (payer, "NoSuchNode")):
+            with self.assertRaises(Refused) as caught:
+                node.retry([1], 1, 1)
+            self.assertEqual(caught.exception.name, name)
+        pharmacy.start()
+        pharmacy.close()
+        again = self.opened("ph1", settings)
+        self.assertEqual([[packet.to for packet in again.tick().sent] for _ in range(3)], [[], [], ["sw2"]])
 
     def test_one_process_has_the_log(self):
         self.opened("ph1")

@@ -1,5 +1,5 @@
-"""One node as a process, step by step: a pharmacy, a payer's book over many prescriptions, a payer that asks, one whose terms change, and a
-switch's table beside a plain list."""
+"""One node as a process, step by step: a pharmacy, one whose rule of retries changes, a payer's book over many prescriptions, a payer that asks, one
+whose terms change, and a switch's table beside a plain list."""
 import json
 from collections.abc import Callable
 
@@ -107,6 +107,10 @@ class Journal(Steps):
             return self.node.ask(f"take sw1 {printed(packet_of(kind, int(pharmacy), int(number), text))}").last
         if word == "count":
             return self.node.ask("count").last.removeprefix("count ")
+        if word == "retry":
+            return self.node.ask(f"retry {argument.decode()}").last
+        if word == "turn":
+            return self.node.turn()
         if word in LISTS:
             return self.list_of(f"{LISTS[word]} {argument.decode()}")
         return {
@@ -328,6 +332,7 @@ class Table(Steps):
 
 SUBJECTS: dict[str, Callable[[], Steps]] = {
     "journal": Journal,
+    "retry": Journal,
     "prescriptions": Book,
     "advised": Asking,
     "terms": Asking,

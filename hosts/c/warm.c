@@ -70,10 +70,19 @@ static void add_advised(struct bytes *line, struct body *body) {
     free(packet.at);
 }
 
+/* Adds a rule of retries: its switches stand before its two numbers in a line, and behind them in the body. */
+static void add_rule(struct bytes *line, struct body *body) {
+    uint64_t again = take_number(body, 4), tries = take_number(body, 4), count = take_number(body, 2);
+    for (uint64_t at = 0; at < count && !body->is_short; at++)
+        add_form(line, "%ssw%u", at == 0 ? "" : ",", (unsigned)take_number(body, 2));
+    add_form(line, " %llu %llu", (unsigned long long)again, (unsigned long long)tries);
+}
+
 /* Adds the line of a call, of this kind and under this name, where it has one. */
 static void add_call(struct bytes *line, uint64_t kind, const struct bytes *name, struct body *body) {
-    static const char *const word[] = { "submit ", "tick", "take ", "stop", "start", "plan ", "plan ", NULL, "adjudicate ", "terms" };
-    enum { SUBMIT = 0, TAKE = 2, DROP = 5, PRICE = 6, ADJUDICATE = 8, TERMS = 9 };
+    static const char *const word[] = { "submit ", "tick", "take ",       "stop",  "start", "plan ",
+                                        "plan ",   NULL,   "adjudicate ", "terms", "retry " };
+    enum { SUBMIT = 0, TAKE = 2, DROP = 5, PRICE = 6, ADJUDICATE = 8, TERMS = 9, RETRY = 10 };
     if (kind >= sizeof word / sizeof *word || word[kind] == NULL) return;
     if (name->size > 0) add_form(line, "submit-as %s ", name->at);
     else add_text(line, word[kind]);
@@ -82,6 +91,7 @@ static void add_call(struct bytes *line, uint64_t kind, const struct bytes *name
     if (kind == SUBMIT || kind == TAKE || kind == DROP || kind == PRICE) add_taken(line, body);
     if (kind == DROP) add_text(line, " none");
     if (kind == PRICE) add_form(line, " %llu", (unsigned long long)take_number(body, 4));
+    if (kind == RETRY) add_rule(line, body);
     for (int amounts = 0; kind == TERMS && amounts < 2; amounts++) add_form(line, " %llu", (unsigned long long)take_number(body, 4));
 }
 

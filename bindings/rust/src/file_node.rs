@@ -126,6 +126,13 @@ impl FileNode {
         self.turn(|node| node.serve(format!("terms {fee} {copay}").as_bytes()))
     }
 
+    /// Another rule of retries: the numbers of the switches that are tried in turn, after how many ticks an entry is sent again, and
+    /// how often to one switch. Of a pharmacy.
+    pub fn retry(&mut self, switches: &[u16], again: u32, tries: u32) -> Result<Said, FileError> {
+        let names: Vec<String> = switches.iter().map(|number| format!("sw{number}")).collect();
+        self.turn(|node| node.serve(format!("retry {} {again} {tries}", names.join(",")).as_bytes()))
+    }
+
     /// The node stops: it refuses calls until it starts.
     pub fn stop(&mut self) -> Result<Said, FileError> {
         self.turn(|node| node.serve(b"stop"))

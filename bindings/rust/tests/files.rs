@@ -65,6 +65,35 @@ fn calls_are_on_disk() {
 }
 
 #[test]
+fn rules_of_retries_change() {
+    let folder = Folder::new("rules");
+    let mut pharmacy = folder.open("ph1").unwrap();
+    let said = pharmacy.submit(&request()).unwrap();
+    assert_eq!(pharmacy.retry(&[1, 1], 2, 3).unwrap(), Said::default());
+    let others: [(&[u16], u32, u32, &str); 5] = [
+        (&[2], 1, 1, "BadRule"),
+        (&[1, 0], 1, 1, "BadRule"),
+        (&[1], 0, 1, "BadRule"),
+        (&[1], 1, 1_001, "BadRule"),
+        (&[], 1, 1, "Line"),
+    ];
+    for (switches, again, tries, refusal) in others {
+        let Err(FileError::Refused(Refused(name))) = pharmacy.retry(switches, again, tries) else { panic!("no rule") };
+        assert_eq!(name, refusal);
+    }
+    // The entry waits for two ticks, as after a start.
+    assert_eq!(pharmacy.tick().unwrap(), Said::default());
+    drop(pharmacy);
+    let mut again = folder.open("ph1").unwrap();
+    assert_eq!((again.tick().unwrap().sent, again.calls().unwrap()), (said.sent, 4));
+    again.stop().unwrap();
+    let Err(FileError::Refused(Refused(name))) = again.retry(&[1], 1, 1) else { panic!("a pharmacy that is stopped") };
+    assert_eq!(name, "Down");
+    let Err(FileError::Refused(Refused(name))) = folder.open("pr1").unwrap().retry(&[1], 1, 1) else { panic!("a payer") };
+    assert_eq!(name, "NoSuchNode");
+}
+
+#[test]
 fn torn_and_removed_logs_are_kept() {
     let folder = Folder::new("torn");
     folder.open("ph1").unwrap().submit(&request()).unwrap();

@@ -16,7 +16,7 @@ use Rattle.bin_routes.specs.declared.fault.RoutesFault.{RoutesFault}
 use Rattle.bin_routes.specs.declared.fault.RoutesFault.TheVariants.{BadBin, NoSuchPayer, BadPcn}
 use Rattle.bin_routes.specs.Row.{Row, leads, leading, is_bin, has_pcn, filled_row, same_pcn}
 use Rattle.bin_routes.specs.Fault.{is_payer, has_end, text_fault, row_fault, is_taken, fault_behind, first_fault}
-use Rattle.bin_routes.specs.Table.{RouteMaps, bin_cmp, processor_cmp, is_ranged, exact_entry, other_entry, key_text, rejected_key, entry_by, rejected_entry, routes_of, payer_at, fits, ranged_payer, payer_of, stays_rejected, payer_under, IsForOthers}
+use Rattle.bin_routes.specs.Table.{RouteMaps, bin_cmp, processor_cmp, is_ranged, exact_entry, other_entry, key_text, rejected_key, entry_by, rejected_entry, routes_of, among, payer_at, fits, ranged_payer, payer_of, stays_rejected, payer_under, IsForOthers}
 use Rattle.bin_routes.proofs.Maps.{processors_total, bins_total}
 
 abbrev pub IsAmong : ℕ → ℕ → Type 0
@@ -170,6 +170,7 @@ maps_of rejected rows = record {
   others = from_entries (filter_map other_entry (map filled_row rows));
   ranged = filter is_ranged (map filled_row rows);
   rejected = rejected;
+  switches = 0;
 }
 
 leading_added : (r : FinMap bin_cmp ℕ) (rows more : List Row) (key : RouteKey) → AllByRecursion (λ (row : Row). IsForOthers row key.qualifier key.provider) more
@@ -240,6 +241,11 @@ unfolding payer_under routes_of
 number_without rows number key all =
     ap (λ (o : Option ℕ). cond (option_map_or (λ last. nat_le number last) o false) None (payer_of (routes_of rows) key))
     (nothing_there (filter_map rejected_entry (map filled_row rows)) (key_text key) (no_rejected rows all))
+
+-- how many switches there are says nothing of it
+pub number_among : (maps : RouteMaps) (switches number : ℕ) (key : RouteKey) → payer_under (among switches maps) number key ≡ payer_under maps number key
+unfolding payer_under payer_of
+number_among maps switches number key = refl
 
 pub routed_payer : (payers : ℕ) (rows : List Row) (bin pcn : List ℕ) → first_fault payers rows ≡ None → IfSome (payer_at (routes_of rows) bin pcn) (IsAmong payers)
 unfolding first_fault payer_at routes_of

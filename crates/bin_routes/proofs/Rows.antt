@@ -107,15 +107,15 @@ none_of : (o : Option ℕ) → is_some o ≡ false → o ≡ None
 none_of None e = refl
 none_of (Some x) e = absurd cc
 
-abbrev maps : FinMap bin_cmp ℕ → FinMap processor_cmp ℕ → FinMap bin_cmp ℕ → List Row → RouteMaps
-maps rejected exact others ranged = record { exact = exact; others = others; ranged = ranged; rejected = rejected }
+abbrev maps : ℕ → FinMap bin_cmp ℕ → FinMap processor_cmp ℕ → FinMap bin_cmp ℕ → List Row → RouteMaps
+maps switches rejected exact others ranged = record { exact = exact; others = others; ranged = ranged; rejected = rejected; switches = switches }
 
 rows_more : (earlier : List Row) (row : Row) → map filled_row (earlier ++ row ∷ []) ≡ map filled_row earlier ++ filled_row row ∷ []
 rows_more earlier row = map-append filled_row earlier (row ∷ [])
 
 -- the maps of filled rows that lead to payers
 abbrev maps_of : FinMap bin_cmp ℕ → List Row → RouteMaps
-maps_of rejected rows = maps rejected (from_entries (filter_map exact_entry rows)) (from_entries (filter_map other_entry rows)) (filter is_ranged rows)
+maps_of rejected rows = maps 0 rejected (from_entries (filter_map exact_entry rows)) (from_entries (filter_map other_entry rows)) (filter is_ranged rows)
 
 pushed : (r : FinMap bin_cmp ℕ) (bin : List ℕ) (pcn : Option (List ℕ)) (providers : Option Providers) (payer : ℕ) (rows : List Row)
     → has_leading (maps_of r rows) (record { bin = bin; pcn = pcn; providers = providers; payer = payer; rejected = None }) ≡ false
@@ -128,12 +128,12 @@ pushed r bin None None payer rows free =
     let row : Row = record { bin = bin; pcn = None; providers = None; payer = payer; rejected = None } in
     let absent : find bin_cmp bin (filter_map other_entry rows) ≡ None = none_of _ (ap is_some (sym (get-from_entries bins_total (filter_map other_entry rows) bin)) ∙ free) in
     rw (filter_map-append exact_entry rows (row ∷ []), filter_map-append other_entry rows (row ∷ []), filter-append is_ranged rows (row ∷ []), append-nil (filter_map exact_entry rows), append-nil (filter is_ranged rows))
-    (ap (λ (m : FinMap bin_cmp ℕ). maps r (from_entries (filter_map exact_entry rows)) m (filter is_ranged rows)) (sym (from_entries_push bins_total exact_bins (filter_map other_entry rows) bin payer absent)))
+    (ap (λ (m : FinMap bin_cmp ℕ). maps 0 r (from_entries (filter_map exact_entry rows)) m (filter is_ranged rows)) (sym (from_entries_push bins_total exact_bins (filter_map other_entry rows) bin payer absent)))
 pushed r bin (Some pcn) None payer rows free =
     let row : Row = record { bin = bin; pcn = Some pcn; providers = None; payer = payer; rejected = None } in
     let absent : find processor_cmp (bin, pcn) (filter_map exact_entry rows) ≡ None = none_of _ (ap is_some (sym (get-from_entries processors_total (filter_map exact_entry rows) (bin, pcn))) ∙ free) in
     rw (filter_map-append exact_entry rows (row ∷ []), filter_map-append other_entry rows (row ∷ []), filter-append is_ranged rows (row ∷ []), append-nil (filter_map other_entry rows), append-nil (filter is_ranged rows))
-    (ap (λ (m : FinMap processor_cmp ℕ). maps r m (from_entries (filter_map other_entry rows)) (filter is_ranged rows)) (sym (from_entries_push processors_total exact_processors (filter_map exact_entry rows) (bin, pcn) payer absent)))
+    (ap (λ (m : FinMap processor_cmp ℕ). maps 0 r m (from_entries (filter_map other_entry rows)) (filter is_ranged rows)) (sym (from_entries_push processors_total exact_processors (filter_map exact_entry rows) (bin, pcn) payer absent)))
 
 -- the entries of those that stay rejected, with one row more
 entries_more : (earlier : List Row) (row : Row)
@@ -142,11 +142,11 @@ entries_more earlier row = ap (filter_map rejected_entry) (rows_more earlier row
 
 -- of a key that is free, or of none
 entered : (old : RouteMaps) (es : List (List ℕ × ℕ)) (key : Option (List ℕ)) (last : ℕ) → old.rejected ≡ from_entries es → has_rejected old key ≡ false
-    → with_entry old (entry_by (Some last) key) ≡ maps (from_entries (es ++ cons_option (entry_by (Some last) key) [])) old.exact old.others old.ranged
-entered old es None last is free = ap (λ (m : FinMap bin_cmp ℕ). maps m old.exact old.others old.ranged) (is ∙ ap from_entries (sym (append-nil es)))
+    → with_entry old (entry_by (Some last) key) ≡ maps old.switches (from_entries (es ++ cons_option (entry_by (Some last) key) [])) old.exact old.others old.ranged
+entered old es None last is free = ap (λ (m : FinMap bin_cmp ℕ). maps old.switches m old.exact old.others old.ranged) (is ∙ ap from_entries (sym (append-nil es)))
 entered old es (Some key) last is free =
     let absent : find bin_cmp key es ≡ None = none_of _ (ap is_some (sym (get-from_entries bins_total es key)) ∙ (ap (λ (m : FinMap bin_cmp ℕ). contains_key m key) (sym is) ∙ free)) in
-    ap (λ (m : FinMap bin_cmp ℕ). maps m old.exact old.others old.ranged) (ap (λ (m : FinMap bin_cmp ℕ). insert m key last) is ∙ sym (from_entries_push bins_total exact_bins es key last absent))
+    ap (λ (m : FinMap bin_cmp ℕ). maps old.switches m old.exact old.others old.ranged) (ap (λ (m : FinMap bin_cmp ℕ). insert m key last) is ∙ sym (from_entries_push bins_total exact_bins es key last absent))
 
 added_by : (earlier : List Row) (bin : List ℕ) (pcn : Option (List ℕ)) (providers : Option Providers) (payer : ℕ) (rejected : Option ℕ)
     → has_key (routes_of earlier) (filled_row (record { bin = bin; pcn = pcn; providers = providers; payer = payer; rejected = rejected })) ≡ false

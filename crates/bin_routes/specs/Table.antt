@@ -28,13 +28,14 @@ text_of bin pcn qualifier provider = ((bin ++ pcn) ++ qualifier) ++ provider
 abbrev pub key_text : RouteKey → List ℕ
 key_text key = text_of key.bin key.pcn key.qualifier key.provider
 
--- from a BIN number and a processor control number to a payer, and from a BIN number to a payer; the rows that are for some providers alone; and from
--- the text of a key to the last number that stays rejected
+-- from a BIN number and a processor control number to a payer, and from a BIN number to a payer; the rows that are for some providers alone; from
+-- the text of a key to the last number that stays rejected; and how many switches there are, which carry what is routed
 pub record RouteMaps : Type 0 where
   pub exact : FinMap processor_cmp ℕ
   pub others : FinMap bin_cmp ℕ
   pub ranged : List Row
   pub rejected : FinMap bin_cmp ℕ
+  pub switches : ℕ
 
 -- as the tuple of its fields
 abbrev pub coded_providers : Coded Providers
@@ -56,9 +57,10 @@ coded_texts = code (coded_list coded_ℕ) coded_ℕ
 -- as the tuple of its maps and rows
 abbrev pub coded_maps : Coded RouteMaps
 coded_maps =
-    code_by (FinMap processor_cmp ℕ × (FinMap bin_cmp ℕ × (List Row × FinMap bin_cmp ℕ)))
-    (coded× (code (coded× (coded_list coded_ℕ) (coded_list coded_ℕ)) coded_ℕ) (coded× coded_texts (coded× (coded_list coded_row) coded_texts)))
-    (λ m. (m.exact, (m.others, (m.ranged, m.rejected)))) (λ p. record { exact = p.0; others = p.1.0; ranged = p.1.1.0; rejected = p.1.1.1 }) (λ _. refl)
+    code_by (FinMap processor_cmp ℕ × (FinMap bin_cmp ℕ × (List Row × (FinMap bin_cmp ℕ × ℕ))))
+    (coded× (code (coded× (coded_list coded_ℕ) (coded_list coded_ℕ)) coded_ℕ) (coded× coded_texts (coded× (coded_list coded_row) (coded× coded_texts coded_ℕ))))
+    (λ m. (m.exact, (m.others, (m.ranged, (m.rejected, m.switches)))))
+    (λ p. record { exact = p.0; others = p.1.0; ranged = p.1.1.0; rejected = p.1.1.1.0; switches = p.1.1.1.1 }) (λ _. refl)
 
 -- the row is for some providers alone
 abbrev pub is_ranged : Row → Bool
@@ -90,14 +92,19 @@ entry_by (Some last) (Some key) = Some (key, last)
 abbrev pub rejected_entry : Row → Option (List ℕ × ℕ)
 rejected_entry row = entry_by row.rejected (rejected_key row)
 
--- the maps of rows
+-- the maps of rows, of no switches yet
 unfoldable pub routes_of : List Row → RouteMaps
 routes_of rows = record {
   exact = from_entries (filter_map exact_entry (map filled_row (leading rows)));
   others = from_entries (filter_map other_entry (map filled_row (leading rows)));
   ranged = filter is_ranged (map filled_row (leading rows));
   rejected = from_entries (filter_map rejected_entry (map filled_row rows));
+  switches = 0;
 }
+
+-- the same maps among this many switches
+abbrev pub among : ℕ → RouteMaps → RouteMaps
+among switches maps = record { exact = maps.exact; others = maps.others; ranged = maps.ranged; rejected = maps.rejected; switches = switches }
 
 -- the payer of the BIN number and processor control number, else that of the BIN number; rows for some providers alone are not asked
 unfoldable pub payer_at : RouteMaps → List ℕ → List ℕ → Option ℕ
@@ -145,17 +152,17 @@ has_key maps row = if leads row then has_leading maps row else has_rejected maps
 -- the maps with the entry of a row for all providers
 abbrev pub with_row_for_all : RouteMaps → Row → RouteMaps
 with_row_for_all maps row =
-    option_map_or (λ pcn. record { exact = insert maps.exact (row.bin, pcn) row.payer; others = maps.others; ranged = maps.ranged; rejected = maps.rejected }) row.pcn
-    (record { exact = maps.exact; others = insert maps.others row.bin row.payer; ranged = maps.ranged; rejected = maps.rejected })
+    option_map_or (λ pcn. record { exact = insert maps.exact (row.bin, pcn) row.payer; others = maps.others; ranged = maps.ranged; rejected = maps.rejected; switches = maps.switches }) row.pcn
+    (record { exact = maps.exact; others = insert maps.others row.bin row.payer; ranged = maps.ranged; rejected = maps.rejected; switches = maps.switches })
 
 -- the maps with the entry of a row that leads to a payer
 abbrev pub with_leading : RouteMaps → Row → RouteMaps
 with_leading maps row =
-    if is_ranged row then record { exact = maps.exact; others = maps.others; ranged = maps.ranged ++ row ∷ []; rejected = maps.rejected } else with_row_for_all maps row
+    if is_ranged row then record { exact = maps.exact; others = maps.others; ranged = maps.ranged ++ row ∷ []; rejected = maps.rejected; switches = maps.switches } else with_row_for_all maps row
 
 -- the maps in which the requests of a key up to the last stay rejected
 abbrev pub with_rejected : RouteMaps → List ℕ → ℕ → RouteMaps
-with_rejected maps key last = record { exact = maps.exact; others = maps.others; ranged = maps.ranged; rejected = insert maps.rejected key last }
+with_rejected maps key last = record { exact = maps.exact; others = maps.others; ranged = maps.ranged; rejected = insert maps.rejected key last; switches = maps.switches }
 
 abbrev pub with_entry : RouteMaps → Option (List ℕ × ℕ) → RouteMaps
 with_entry maps None = maps

@@ -5,7 +5,7 @@ ghost use Rattle.std.specs.List.{AllByRecursion};
 ghost use Rattle.bin_routes.specs.Key.{RouteKey};
 ghost use Rattle.bin_routes.specs.Row.{Row, leads};
 ghost use Rattle.bin_routes.specs.Fault.{first_fault};
-ghost use Rattle.bin_routes.specs.Table.{RouteMaps, routes_of, payer_at, payer_of, payer_under, IsForOthers};
+ghost use Rattle.bin_routes.specs.Table.{RouteMaps, routes_of, among, payer_at, payer_of, payer_under, IsForOthers};
 
 /// Where rows have no fault, each payer that they route to is one of the payers.
 pub fn route_laws()
@@ -14,12 +14,14 @@ pub fn route_laws()
 {}
 
 /// A request has the payer of its fields or none: those of one key that have one have the same, whatever their numbers are.
-/// Where no row says what stays rejected each has it.
+/// Where no row says what stays rejected each has it. How many switches there are says nothing of it.
 pub fn number_laws()
     ensures led { (maps : RouteMaps) (number : ℕ) (key : RouteKey) (payer : ℕ)
         → payer_under maps number key ≡ Some payer → payer_of maps key ≡ Some payer }
     ensures without { (rows : List Row) (number : ℕ) (key : RouteKey) → AllByRecursion (λ row. leads row ≡ true) rows
         → payer_under (routes_of rows) number key ≡ payer_of (routes_of rows) key }
+    ensures among { (maps : RouteMaps) (switches number : ℕ) (key : RouteKey)
+        → payer_under (among switches maps) number key ≡ payer_under maps number key }
 {}
 
 /// Where rows have no fault, each payer that they route a header to is one of the payers. Where no row is for some providers

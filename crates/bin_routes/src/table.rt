@@ -5,7 +5,7 @@ ghost use Rattle.bin_routes.specs.declared.fault.RoutesFault.TheVariants.{OutOfM
 ghost use Rattle.std.specs.FinMap.{get, contains_key};
 ghost use Rattle.bin_routes.specs.Row.{filled_row};
 ghost use Rattle.bin_routes.specs.Fault.{first_fault, fault_beside};
-ghost use Rattle.bin_routes.specs.Table.{RouteMaps, routes_of, payer_at, payer_of, stays_rejected, payer_under, has_leading, has_for_all, with_leading, with_row, with_row_for_all, with_rejected, key_text};
+ghost use Rattle.bin_routes.specs.Table.{RouteMaps, routes_of, among, payer_at, payer_of, stays_rejected, payer_under, has_leading, has_for_all, with_leading, with_row, with_row_for_all, with_rejected, key_text};
 
 use crate::fault::RoutesFault;
 use crate::key::RouteKey;
@@ -24,6 +24,7 @@ pub struct Routes {
     others: BTreeMap<Bin, PayerNo>,
     ranged: Vec<Route>,
     rejected: BTreeMap<KeyText, u64>,
+    switches: u16,
 }
 
 impl Model for Routes {
@@ -34,7 +35,7 @@ impl Model for Routes {
 
     ghost coded = { coded_maps };
 
-    ghost view = { λ a. record { exact = from_entries a.exact.entries; others = from_entries a.others.entries; ranged = a.ranged.items; rejected = from_entries a.rejected.entries } };
+    ghost view = { λ a. record { exact = from_entries a.exact.entries; others = from_entries a.others.entries; ranged = a.ranged.items; rejected = from_entries a.rejected.entries; switches = a.switches } };
 }
 
 impl Routes {
@@ -50,6 +51,20 @@ impl Routes {
             routes.add(place, row, payers)?;
         }
         Ok(routes)
+    }
+
+    /// The same table, of a network with this many switches. What it says of payers is as it was.
+    pub fn among(self, switches: u16) -> Routes
+        ensures { result ≡ among switches self }
+    {
+        Routes { switches, ..self }
+    }
+
+    /// How many switches there are: they are numbered from 1. A table that was made of rows alone says 0.
+    pub fn switches(&self) -> u16
+        ensures { result ≡ self.now.switches }
+    {
+        self.switches
     }
 
     /// The payer of a header's BIN number and processor control number: that of the row of both, else that of the
@@ -145,6 +160,7 @@ impl Routes {
             others: BTreeMap::new(alloc),
             ranged: Vec::new(alloc),
             rejected: BTreeMap::new(alloc),
+            switches: 0,
         }
     }
 

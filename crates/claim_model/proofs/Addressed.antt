@@ -1,5 +1,5 @@
 -- Every packet is addressed to a node that is there and that it is for.
-use Rattle.std.proofs.Common.{◌≡◌, ℕ, Bool, true, false, cond, List, [], ◌∷◌, map, length, Option, Some, None, Result, Ok, Err, refl, sym, ap, ◌∙◌, subst}
+use Rattle.std.proofs.Common.{◌≡◌, ◌<◌, ℕ, Bool, true, false, cond, List, [], ◌∷◌, map, length, Option, Some, None, Result, Ok, Err, refl, sym, ap, ◌∙◌, subst}
 use Rattle.std.specs.Prelude.{bytes_eq, ⊤}
 use Rattle.std.specs.List.{AllByRecursion}
 use Rattle.claim_model.specs.Words.{Advice, TxnId, RequestHeader, Envelope, EnvelopeFault, Answer, Plan, PlanFault}
@@ -9,19 +9,19 @@ use Rattle.claim_model.specs.Readable.{readable, payer_for, rejection, answer_en
 use Rattle.claim_model.specs.Refusal.{Refusal}
 use Rattle.claim_model.specs.Rows.{Book}
 use Rattle.claim_model.specs.Book.{answered, unadvised}
-use Rattle.claim_model.specs.Journal.{Journal, JournalAtRest, Sending, submitted, ticked, due, heard, stopped, started}
+use Rattle.claim_model.specs.Journal.{Journal, JournalAtRest, Sending, submitted, ticked, due, heard, stopped, started, is_rule, with_rule, ruled_anew}
 use Rattle.claim_model.specs.Table.{Slot, Table, Back, Requested, slot_of, routed_by, requested_again, requested_by, requested_readable, requested, Responded, responded_with, responded_by, responded_readable, responded}
-use Rattle.claim_model.specs.Node.{Node, Pharmacy, Switch, Payer, Power, Up, AtRest, Sent, Call, Submit, Tick, Take, Stop, Start, Reprice, Adjudicate, Done, to_switch, pharmacy_takes, pharmacy_step, to_payer_or_back, after_request, after_response, switch_takes, switch_step, after_answer, payer_takes, advice_in, after_reprice, payer_step}
+use Rattle.claim_model.specs.Node.{Node, Pharmacy, Switch, Payer, Power, Up, AtRest, Sent, Call, Submit, Tick, Take, Stop, Start, Revise, OfPlan, OfRule, Adjudicate, Done, to_switch, pharmacy_takes, pharmacy_step, to_payer_or_back, after_request, after_response, switch_takes, switch_step, after_answer, payer_takes, advice_in, after_reprice, payer_step}
 use Rattle.claim_model.specs.World.{World, Packet}
 use Rattle.claim_model.specs.Settings.{WorldSettings}
 use Rattle.claim_model.specs.Held.{journal_in, asked, decided}
 use Rattle.claim_model.specs.Carried.{Carries, IsVouched}
 use Rattle.claim_model.proofs.Lists.{all_map}
 use Rattle.claim_model.proofs.Options.{same_ok, cond_ok, cond_ok_not}
-use Rattle.claim_model.proofs.Journals.{submitted_enters, submitted_is, heard_is}
+use Rattle.claim_model.proofs.Journals.{submitted_enters, submitted_is, heard_is, ruled_same}
 use Rattle.claim_model.proofs.Sound.{SoundSlot, SoundSwitch, Sound}
 use Rattle.claim_model.proofs.Decided.{origin, decided_unrouted}
-use Rattle.claim_model.proofs.PharmacyStep.{carries_reads, done_same, after_submit_done, after_hearing_done}
+use Rattle.claim_model.proofs.PharmacyStep.{carries_reads, done_same, rule_taken, after_submit_done, after_hearing_done}
 use Rattle.claim_model.proofs.SwitchStep.{request_says, slot_found}
 use Rattle.claim_model.proofs.PayerStep.{after_answer_done, takes_parts, asked_first}
 use Rattle.claim_model.proofs.Phases.{IsThere, Phases, HasSwitches, first_fits, switch_at_there, due_there, ticked_phases, started_phases, entered_phases, settled_phases}
@@ -65,7 +65,7 @@ CallIsFor ctx given node (Submit text) = ⊤
 CallIsFor ctx given node Tick = ⊤
 CallIsFor ctx given node Stop = ⊤
 CallIsFor ctx given node Start = ⊤
-CallIsFor ctx given node (Reprice change) = ⊤
+CallIsFor ctx given node (Revise change) = ⊤
 CallIsFor ctx given node (Adjudicate from bytes advice) = IsForAll ctx given from node bytes
 
 -- pharmacies send to switches of their lists
@@ -88,18 +88,19 @@ takes_phases ctx given n j (Ok env) next out p e =
     let h = heard_is ctx j env d.0 d.1 in
     sends_at ctx given n (Up d.0) next [] out (sym d.2) (sym d.3) (record { phases = subst Phases (sym h.1) (settled_phases j env.id.number h.0 env.payload p); sends = tt })
 
-pub pharmacy_sends : (ctx : Context) (given : WorldSettings) (n : ℕ) (s next : Power Journal JournalAtRest) (call : Call) (out : List Sent) → HasSwitches (journal_in s).settings (length given.switches) → PowerPhases s
+pub pharmacy_sends : (ctx : Context) (given : WorldSettings) (n : ℕ) (s next : Power Journal JournalAtRest) (call : Call) (out : List Sent) → HasSwitches (journal_in s).rule (length given.switches)
+    → HasSwitches (journal_in next).rule (length given.switches) → PowerPhases s
     → pharmacy_step ctx s call ≡ Done next out → PharmacySends ctx given n next out
-unfolding stopped ticked
-pharmacy_sends ctx given n (Up j) next (Submit text) out h p e =
+unfolding stopped ticked ruled_anew
+pharmacy_sends ctx given n (Up j) next (Submit text) out h g p e =
     let d = after_submit_done (submitted ctx j text) next out e in
     let f = submitted_enters ctx j text d.0 d.1 in
-    let above = first_fits j.settings (length given.switches) h in
+    let above = first_fits j.rule (length given.switches) h in
     let there : IsThere d.0.sent.switch (length given.switches) =
-    subst (λ (q : Sending). IsThere q.switch (length given.switches)) (sym f.2) (switch_at_there j.settings (length given.switches) 0 h above) in
+    subst (λ (q : Sending). IsThere q.switch (length given.switches)) (sym f.2) (switch_at_there j.rule (length given.switches) 0 h above) in
     sends_at ctx given n (Up d.0.journal) next (to_switch d.0.sent ∷ []) out (sym d.2) (sym d.3)
     (record { phases = subst Phases (sym (submitted_is ctx j text d.0 d.1)) (entered_phases j text above p); sends = (λ env r. there, tt) })
-pharmacy_sends ctx given n (Up j) next Tick out h p e =
+pharmacy_sends ctx given n (Up j) next Tick out h g p e =
     let d = done_same (Up (ticked j)) next (map to_switch (due ctx (ticked j))) out e in
     let phases : Phases (ticked j) = ticked_phases j h.some p in
     sends_at ctx given n (Up (ticked j)) next _ out d.0 d.1
@@ -107,21 +108,27 @@ pharmacy_sends ctx given n (Up j) next Tick out h p e =
       phases = phases;
       sends = all_map (λ (x : Sending). IsThere x.switch (length given.switches)) (SentWell ctx given (Pharmacy n)) to_switch (λ x t env r. t) (due ctx (ticked j)) (due_there ctx (ticked j) (length given.switches) h phases);
     })
-pharmacy_sends ctx given n (Up j) next (Take from bytes) out h p e = takes_phases ctx given n j (ctx.read_envelope bytes) next out p e
-pharmacy_sends ctx given n (Up j) next Stop out h p e =
+pharmacy_sends ctx given n (Up j) next (Take from bytes) out h g p e = takes_phases ctx given n j (ctx.read_envelope bytes) next out p e
+pharmacy_sends ctx given n (Up j) next Stop out h g p e =
     let d = done_same (AtRest (stopped j)) next [] out e in sends_at ctx given n (AtRest (stopped j)) next [] out d.0 d.1 (record { phases = tt; sends = tt })
-pharmacy_sends ctx given n (AtRest j) next Start out h p e =
+pharmacy_sends ctx given n (AtRest j) next Start out h g p e =
     let d = done_same (Up (started j)) next [] out e in
     sends_at ctx given n (Up (started j)) next [] out d.0 d.1 (record { phases = started_phases j h.some; sends = tt })
-pharmacy_sends ctx given n (Up j) next Start out h p e = absurd cc
-pharmacy_sends ctx given n (Up j) next (Reprice change) out h p e = absurd cc
-pharmacy_sends ctx given n (Up j) next (Adjudicate from bytes advice) out h p e = absurd cc
-pharmacy_sends ctx given n (AtRest j) next (Submit text) out h p e = absurd cc
-pharmacy_sends ctx given n (AtRest j) next Tick out h p e = absurd cc
-pharmacy_sends ctx given n (AtRest j) next (Take from bytes) out h p e = absurd cc
-pharmacy_sends ctx given n (AtRest j) next Stop out h p e = absurd cc
-pharmacy_sends ctx given n (AtRest j) next (Reprice change) out h p e = absurd cc
-pharmacy_sends ctx given n (AtRest j) next (Adjudicate from bytes advice) out h p e = absurd cc
+pharmacy_sends ctx given n (Up j) next Start out h g p e = absurd cc
+pharmacy_sends ctx given n (Up j) next (Revise (OfPlan change)) out h g p e = absurd cc
+pharmacy_sends ctx given n (Up j) next (Revise (OfRule rule)) out h g p e =
+    let d = rule_taken (is_rule ctx.switches rule) (Up (ruled_anew rule j)) next [] out e in
+    let some : 0 < length rule.nodes =
+    subst (λ (q : JournalAtRest). 0 < length q.rule.nodes) (ruled_same rule j) (subst (λ y. 0 < length (journal_in y).rule.nodes) (sym d.1) g.some) in
+    sends_at ctx given n (Up (ruled_anew rule j)) next [] out d.1 d.2 (record { phases = started_phases (with_rule rule (stopped j)) some; sends = tt })
+pharmacy_sends ctx given n (Up j) next (Adjudicate from bytes advice) out h g p e = absurd cc
+pharmacy_sends ctx given n (AtRest j) next (Submit text) out h g p e = absurd cc
+pharmacy_sends ctx given n (AtRest j) next Tick out h g p e = absurd cc
+pharmacy_sends ctx given n (AtRest j) next (Take from bytes) out h g p e = absurd cc
+pharmacy_sends ctx given n (AtRest j) next Stop out h g p e = absurd cc
+pharmacy_sends ctx given n (AtRest j) next (Revise (OfPlan change)) out h g p e = absurd cc
+pharmacy_sends ctx given n (AtRest j) next (Revise (OfRule rule)) out h g p e = absurd cc
+pharmacy_sends ctx given n (AtRest j) next (Adjudicate from bytes advice) out h g p e = absurd cc
 
 -- switches send to the routed payer, or to the pharmacy of the id
 
@@ -229,13 +236,13 @@ switch_sends ctx given w m (AtRest cap) next Start out laws x there all c e = su
 switch_sends ctx given w m (Up t) next (Submit text) out laws x there all c e = absurd cc
 switch_sends ctx given w m (Up t) next Tick out laws x there all c e = absurd cc
 switch_sends ctx given w m (Up t) next Start out laws x there all c e = absurd cc
-switch_sends ctx given w m (Up t) next (Reprice change) out laws x there all c e = absurd cc
+switch_sends ctx given w m (Up t) next (Revise change) out laws x there all c e = absurd cc
 switch_sends ctx given w m (Up t) next (Adjudicate from bytes advice) out laws x there all c e = absurd cc
 switch_sends ctx given w m (AtRest cap) next (Submit text) out laws x there all c e = absurd cc
 switch_sends ctx given w m (AtRest cap) next Tick out laws x there all c e = absurd cc
 switch_sends ctx given w m (AtRest cap) next (Take from bytes) out laws x there all c e = absurd cc
 switch_sends ctx given w m (AtRest cap) next Stop out laws x there all c e = absurd cc
-switch_sends ctx given w m (AtRest cap) next (Reprice change) out laws x there all c e = absurd cc
+switch_sends ctx given w m (AtRest cap) next (Revise change) out laws x there all c e = absurd cc
 switch_sends ctx given w m (AtRest cap) next (Adjudicate from bytes advice) out laws x there all c e = absurd cc
 
 -- payers answer the switch that asked
@@ -264,7 +271,8 @@ payer_sends ctx given w n (Up b) next (Take from bytes) out laws c for_it e = ad
 payer_sends ctx given w n (Up b) next (Adjudicate from bytes advice) out laws c for_it e =
     adjudicated_out ctx given w n b (advice_in ctx advice) from bytes next out laws c for_it (asked_first b.settings.asks _ next out e).1
 payer_sends ctx given w n (Up b) next Stop out laws c for_it e = subst (AllByRecursion (SentWell ctx given (Payer n))) (done_same (AtRest b) next [] out e).1 tt
-payer_sends ctx given w n (Up b) next (Reprice change) out laws c for_it e = repriced_out ctx given n b (ctx.reprice b.plan change) next out e
+payer_sends ctx given w n (Up b) next (Revise (OfPlan change)) out laws c for_it e = repriced_out ctx given n b (ctx.reprice b.plan change) next out e
+payer_sends ctx given w n (Up b) next (Revise (OfRule rule)) out laws c for_it e = absurd cc
 payer_sends ctx given w n (AtRest b) next Start out laws c for_it e = subst (AllByRecursion (SentWell ctx given (Payer n))) (done_same (Up b) next [] out e).1 tt
 payer_sends ctx given w n (Up b) next (Submit text) out laws c for_it e = absurd cc
 payer_sends ctx given w n (Up b) next Tick out laws c for_it e = absurd cc
@@ -273,5 +281,6 @@ payer_sends ctx given w n (AtRest b) next (Submit text) out laws c for_it e = ab
 payer_sends ctx given w n (AtRest b) next Tick out laws c for_it e = absurd cc
 payer_sends ctx given w n (AtRest b) next (Take from bytes) out laws c for_it e = absurd cc
 payer_sends ctx given w n (AtRest b) next Stop out laws c for_it e = absurd cc
-payer_sends ctx given w n (AtRest b) next (Reprice change) out laws c for_it e = absurd cc
+payer_sends ctx given w n (AtRest b) next (Revise (OfPlan change)) out laws c for_it e = absurd cc
+payer_sends ctx given w n (AtRest b) next (Revise (OfRule rule)) out laws c for_it e = absurd cc
 payer_sends ctx given w n (AtRest b) next (Adjudicate from bytes advice) out laws c for_it e = absurd cc

@@ -10,17 +10,17 @@ use Rattle.claim_model.specs.Context.{Context}
 use Rattle.claim_model.specs.Readable.{readable, settles, request_envelope, is_request}
 use Rattle.claim_model.specs.Refusal.{Refusal}
 use Rattle.claim_model.specs.Numbered.{numbered, renumbered}
-use Rattle.claim_model.specs.Journal.{State, Waits, Has, Entry, Journal, Kept, JournalAtRest, Sending, circle, sending, is_own, submit_fault, Submitted, submitted_unless, submitted, ticked_state, ticked, due_by, due_from, due, settle_by, settle_with, heard_at, heard, answer_in, kept_entry, stopped, started_state, started}
+use Rattle.claim_model.specs.Journal.{RetryRule, State, Waits, Has, Entry, Journal, Kept, JournalAtRest, Sending, circle, sending, is_own, submit_fault, Submitted, submitted_unless, submitted, ticked_state, ticked, due_by, due_from, due, settle_by, settle_with, heard_at, heard, answer_in, kept_entry, stopped, started_state, started, with_rule, ruled_anew}
 use Rattle.claim_model.proofs.Lists.{numbered_map, all_append}
 use Rattle.claim_model.proofs.Tests.{readable_from, nat_same}
 
 -- a journal with one more entry
 abbrev pub entry_added : JournalAtRest → List ℕ → JournalAtRest
-entry_added j text = record { number = j.number; settings = j.settings; entries = j.entries ++ record { request = text; answer = None } ∷ [] }
+entry_added j text = record { number = j.number; settings = j.settings; rule = j.rule; entries = j.entries ++ record { request = text; answer = None } ∷ [] }
 
 -- a journal with an answer at an entry
 abbrev pub entry_settled : JournalAtRest → ℕ → Kept → List ℕ → JournalAtRest
-entry_settled j number e answer = record { number = j.number; settings = j.settings; entries = renumbered j.entries number (record { request = e.request; answer = Some answer }) }
+entry_settled j number e answer = record { number = j.number; settings = j.settings; rule = j.rule; entries = renumbered j.entries number (record { request = e.request; answer = Some answer }) }
 
 pub record Enters (ctx : Context) (j : JournalAtRest) (text : List ℕ) : Type 0 where
   pub header : RequestHeader
@@ -68,7 +68,7 @@ submitted_by ctx j text s (Some f) is e = absurd cc
 submitted_by ctx j text s None is e =
     let same = same_ok _ s e in (
       enters_by ctx j text (ctx.header text) refl is,
-      ap (λ (x : Submitted). stopped x.journal) (sym same) ∙ ap (λ es. record { number = j.number; settings = j.settings; entries = es }) (map_push kept_entry j.entries (record { request = text; state = Waits 0 })),
+      ap (λ (x : Submitted). stopped x.journal) (sym same) ∙ ap (λ es. record { number = j.number; settings = j.settings; rule = j.rule; entries = es }) (map_push kept_entry j.entries (record { request = text; state = Waits 0 })),
       ap (λ (x : Submitted). x.sent) (sym same),
     )
   where
@@ -83,7 +83,7 @@ submitted_enters ctx j text s e = submitted_by ctx j text s (submit_fault j text
 
 -- a journal that is up, with one more entry
 abbrev pub entered_journal : Journal → List ℕ → Journal
-entered_journal j text = record { number = j.number; settings = j.settings; entries = j.entries ++ record { request = text; state = Waits 0 } ∷ [] }
+entered_journal j text = record { number = j.number; settings = j.settings; rule = j.rule; entries = j.entries ++ record { request = text; state = Waits 0 } ∷ [] }
 
 submitted_is_by : (ctx : Context) (j : Journal) (text : List ℕ) (s : Submitted) (o : Option Refusal) → submitted_unless ctx j text o ≡ Ok s → s.journal ≡ entered_journal j text
 submitted_is_by ctx j text s (Some f) e = absurd cc
@@ -109,7 +109,7 @@ ticked_kept phases (e ∷ es) = ap₂ (λ k ks. record { request = e.request; an
 -- a tick changes phases alone
 pub ticked_same : (j : Journal) → stopped (ticked j) ≡ stopped j
 unfolding stopped ticked
-ticked_same j = ap (λ es. record { number = j.number; settings = j.settings; entries = es }) (ticked_kept (circle j.settings) j.entries)
+ticked_same j = ap (λ es. record { number = j.number; settings = j.settings; rule = j.rule; entries = es }) (ticked_kept (circle j.rule) j.entries)
 
 started_kept : (phase : ℕ) (ks : List Kept) → map kept_entry (map (λ k. record { request = k.request; state = started_state phase k.answer }) ks) ≡ ks
 started_kept phase [] = refl
@@ -122,7 +122,14 @@ started_kept phase (k ∷ ks) = ap₂ (λ a ks. record { request = k.request; an
 -- a start brings back what was at rest
 pub started_same : (j : JournalAtRest) → stopped (started j) ≡ j
 unfolding stopped started
-started_same j = ap (λ es. record { number = j.number; settings = j.settings; entries = es }) (started_kept _ j.entries)
+started_same j = ap (λ es. record { number = j.number; settings = j.settings; rule = j.rule; entries = es }) (started_kept _ j.entries)
+
+-- another rule
+
+-- it changes the rule and phases alone
+pub ruled_same : (r : RetryRule) (j : Journal) → stopped (ruled_anew r j) ≡ with_rule r (stopped j)
+unfolding ruled_anew
+ruled_same r j = started_same (with_rule r (stopped j))
 
 -- answers
 
@@ -144,7 +151,7 @@ settle_open answer (Has held) t e = go (bytes_eq held answer) e
     go false h = absurd cc
 
 abbrev pub settled_journal : Journal → ℕ → Entry → State → Journal
-settled_journal j number e t = record { number = j.number; settings = j.settings; entries = renumbered j.entries number (record { request = e.request; state = t }) }
+settled_journal j number e t = record { number = j.number; settings = j.settings; rule = j.rule; entries = renumbered j.entries number (record { request = e.request; state = t }) }
 
 settle_with_ok : (j : Journal) (number : ℕ) (e : Entry) (r : Result State Refusal) (after : Journal) → settle_with j number e r ≡ Ok after → (t : State) × (r ≡ Ok t) × (after ≡ settled_journal j number e t)
 settle_with_ok j number e (Err f) after h = absurd cc
@@ -171,7 +178,7 @@ heard_at_settles ctx j e (Some entry) after is h =
         is =
             ap stopped c.2
             ∙ (ap (λ t. stopped (settled_journal j e.id.number entry t)) d.1
-            ∙ ap (λ es. record { number = j.number; settings = j.settings; entries = es }) (map_renumbered kept_entry j.entries e.id.number (record { request = entry.request; state = Has e.payload })));
+            ∙ ap (λ es. record { number = j.number; settings = j.settings; rule = j.rule; entries = es }) (map_renumbered kept_entry j.entries e.id.number (record { request = entry.request; state = Has e.payload })));
       },
       not-true _ b.0,
     )
@@ -216,7 +223,7 @@ numbered_middle xs y ys = let e : suc (length xs) ≡ length xs + 1 = omega arit
 
 due_by_asks : (ctx : Context) (j : Journal) (number : ℕ) (e : Entry) (s : State) → numbered j.entries number ≡ Some e → AllByRecursion (Asks ctx j) (due_by ctx j number e.request s)
 due_by_asks ctx j number e (Has answer) h = tt
-due_by_asks ctx j number e (Waits phase) h = go ((phase % j.settings.again) == 0)
+due_by_asks ctx j number e (Waits phase) h = go ((phase % j.rule.again) == 0)
   where
     go : (b : Bool) → AllByRecursion (Asks ctx j) (cond b (sending ctx j number phase e.request ∷ []) [])
     go true = (record { number = number; entry = e; stands = h; bytes = refl }, tt)

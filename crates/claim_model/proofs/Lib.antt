@@ -24,6 +24,7 @@ pub mod Counting
 pub mod CountedInFull
 pub mod Stays
 pub mod Phases
+pub mod Rules
 pub mod Addressed
 pub mod Posts
 pub mod Deliverable

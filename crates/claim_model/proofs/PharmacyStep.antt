@@ -1,15 +1,15 @@
 -- A pharmacy's step keeps a world sound.
-use Rattle.std.proofs.Common.{◌≡◌, ℕ, ◌+◌, ◌≤◌, true, false, List, [], ◌∷◌, ◌++◌, map, length, Option, Some, None, Result, Ok, Err, refl, sym, ap, ◌∙◌, subst, inl, inr, arith, length-append}
+use Rattle.std.proofs.Common.{◌≡◌, ℕ, ◌+◌, ◌≤◌, Bool, true, false, cond, List, [], ◌∷◌, ◌++◌, map, length, Option, Some, None, Result, Ok, Err, refl, sym, ap, ◌∙◌, subst, inl, inr, arith, length-append}
 use Rattle.std.specs.Prelude.{option_map, option_and_then}
 use Rattle.std.proofs.lemmas.Bool.{cases_eq}
 use Rattle.claim_model.specs.Words.{TxnId, Kind, Request, Response}
 use Rattle.claim_model.specs.Context.{Context}
 use Rattle.claim_model.specs.Laws.{Laws}
 use Rattle.claim_model.specs.Readable.{request_envelope}
-use Rattle.claim_model.specs.Refusal.{Refusal}
+use Rattle.claim_model.specs.Refusal.{Refusal, BadRule}
 use Rattle.claim_model.specs.Numbered.{numbered, renumbered}
-use Rattle.claim_model.specs.Journal.{Journal, JournalAtRest, Kept, Sending, Submitted, submitted, ticked, due, heard, stopped, started, kept_entry}
-use Rattle.claim_model.specs.Node.{Node, Power, Up, AtRest, Sent, Call, Submit, Tick, Take, Stop, Start, Reprice, Adjudicate, Done, to_switch, after_submit, after_hearing, pharmacy_takes, pharmacy_step}
+use Rattle.claim_model.specs.Journal.{RetryRule, Journal, JournalAtRest, Kept, Sending, Submitted, submitted, ticked, due, heard, stopped, started, kept_entry, is_rule, with_rule, ruled_anew}
+use Rattle.claim_model.specs.Node.{Node, Power, Up, AtRest, Sent, Call, Submit, Tick, Take, Stop, Start, Revise, OfPlan, OfRule, Adjudicate, Outcome, Done, Refused, to_switch, after_submit, after_hearing, pharmacy_takes, pharmacy_step}
 use Rattle.claim_model.specs.World.{World, packet_from}
 use Rattle.claim_model.specs.Limits.{most_entries}
 use Rattle.claim_model.specs.Settings.{WorldSettings, Accepts}
@@ -18,7 +18,7 @@ use Rattle.claim_model.specs.Carried.{Says, Carries, IsVouched}
 use Rattle.claim_model.proofs.Lists.{numbered_put, numbered_put_other, numbered_append, numbered_last, numbered_more, numbered_within, numbered_map, all_map}
 use Rattle.claim_model.proofs.Options.{same_some}
 use Rattle.claim_model.proofs.Tests.{readable_parts}
-use Rattle.claim_model.proofs.Journals.{entry_added, entry_settled, Enters, Asks, submitted_enters, ticked_same, started_same, heard_settles, due_asks}
+use Rattle.claim_model.proofs.Journals.{entry_added, entry_settled, Enters, Asks, submitted_enters, ticked_same, started_same, ruled_same, heard_settles, due_asks}
 use Rattle.claim_model.proofs.Given.{pharmacy_given}
 use Rattle.claim_model.proofs.Sound.{id_at, SoundEntry, SoundJournal, SoundPacket, Sound, Later, RequestsStay, with_pharmacy, pharmacy_later, entry_later, journal_later, sound_pharmacy}
 
@@ -66,6 +66,24 @@ quiet_step ctx given w n s next x is e =
     let l : Later ctx w (with_pharmacy w n next []) = pharmacy_later ctx w n s next [] is (same_stays (journal_in s) (journal_in next) e) in
     record {
       sound = sound_pharmacy ctx given w n s next [] x is l (same_journal ctx given w (with_pharmacy w n next []) n (journal_in s) (journal_in next) e l (x.pharmacies n s is)) tt;
+      later = l;
+    }
+
+-- a step that changes the rule alone
+ruled_sound : (ctx : Context) (given : WorldSettings) (w v : World) (n : ℕ) (j : JournalAtRest) (rule : RetryRule) → Later ctx w v → SoundJournal ctx given w n j → SoundJournal ctx given v n (with_rule rule j)
+ruled_sound ctx given w v n j rule l x =
+    record { number = x.number; settings = x.settings; room = x.room; entries = λ k e h. entry_later ctx w v l j.settings (id_at n k) e (x.entries k e h) }
+
+rule_step : (ctx : Context) (given : WorldSettings) (w : World) (n : ℕ) (j : Journal) (rule : RetryRule) → Sound ctx given w → numbered w.pharmacies n ≡ Some (Up j)
+    → Kept_sound ctx given w (with_pharmacy w n (Up (ruled_anew rule j)) [])
+rule_step ctx given w n j rule x is =
+    let v : World = with_pharmacy w n (Up (ruled_anew rule j)) [] in
+    let stays : RequestsStay (stopped j) (stopped (ruled_anew rule j)) = subst (RequestsStay (stopped j)) (sym (ruled_same rule j)) (λ k f h. (f, h, refl)) in
+    let l : Later ctx w v = pharmacy_later ctx w n (Up j) (Up (ruled_anew rule j)) [] is stays in
+    record {
+      sound =
+          sound_pharmacy ctx given w n (Up j) (Up (ruled_anew rule j)) [] x is l
+          (subst (SoundJournal ctx given v n) (sym (ruled_same rule j)) (ruled_sound ctx given w v n (stopped j) rule l (x.pharmacies n (Up j) is))) tt;
       later = l;
     }
 
@@ -221,6 +239,11 @@ moved ctx given w n a next b sent e f k = subst (λ y. Kept_sound ctx given w (w
 pub done_same : {A : Type 0} (a b : A) (s t : List Sent) → Done a s ≡ Done b t → (a ≡ b) × (s ≡ t)
 done_same a b s t e = (cc, cc)
 
+-- a rule that a pharmacy takes
+pub rule_taken : {A : Type 0} (b : Bool) (a next : A) (s sent : List Sent) → cond b (Done a s) (Refused BadRule) ≡ Done next sent → (b ≡ true) × (a ≡ next) × (s ≡ sent)
+rule_taken true a next s sent e = let d = done_same a next s sent e in (refl, d.0, d.1)
+rule_taken false a next s sent e = absurd cc
+
 pub pharmacy_sound : (ctx : Context) (given : WorldSettings) (w : World) (n : ℕ) (s next : Power Journal JournalAtRest) (call : Call) (sent : List Sent)
     → Laws ctx → Accepts ctx given → Sound ctx given w → numbered w.pharmacies n ≡ Some s → IsVouched ctx w call → pharmacy_step ctx s call ≡ Done next sent
     → Kept_sound ctx given w (with_pharmacy w n next sent)
@@ -238,7 +261,10 @@ pharmacy_sound ctx given w n (Up j) next Stop sent laws accepts x is c e =
     let d = done_same (AtRest (stopped j)) next [] sent e in
     moved ctx given w n (AtRest (stopped j)) next [] sent d.0 d.1 (quiet_step ctx given w n (Up j) (AtRest (stopped j)) x is refl)
 pharmacy_sound ctx given w n (Up j) next Start sent laws accepts x is c e = absurd cc
-pharmacy_sound ctx given w n (Up j) next (Reprice change) sent laws accepts x is c e = absurd cc
+pharmacy_sound ctx given w n (Up j) next (Revise (OfPlan change)) sent laws accepts x is c e = absurd cc
+pharmacy_sound ctx given w n (Up j) next (Revise (OfRule rule)) sent laws accepts x is c e =
+    let d = rule_taken (is_rule ctx.switches rule) (Up (ruled_anew rule j)) next [] sent e in
+    moved ctx given w n (Up (ruled_anew rule j)) next [] sent d.1 d.2 (rule_step ctx given w n j rule x is)
 pharmacy_sound ctx given w n (Up j) next (Adjudicate from bytes advice) sent laws accepts x is c e = absurd cc
 pharmacy_sound ctx given w n (AtRest j) next Start sent laws accepts x is c e =
     let d = done_same (Up (started j)) next [] sent e in
@@ -247,5 +273,6 @@ pharmacy_sound ctx given w n (AtRest j) next (Submit text) sent laws accepts x i
 pharmacy_sound ctx given w n (AtRest j) next Tick sent laws accepts x is c e = absurd cc
 pharmacy_sound ctx given w n (AtRest j) next (Take from bytes) sent laws accepts x is c e = absurd cc
 pharmacy_sound ctx given w n (AtRest j) next Stop sent laws accepts x is c e = absurd cc
-pharmacy_sound ctx given w n (AtRest j) next (Reprice change) sent laws accepts x is c e = absurd cc
+pharmacy_sound ctx given w n (AtRest j) next (Revise (OfPlan change)) sent laws accepts x is c e = absurd cc
+pharmacy_sound ctx given w n (AtRest j) next (Revise (OfRule rule)) sent laws accepts x is c e = absurd cc
 pharmacy_sound ctx given w n (AtRest j) next (Adjudicate from bytes advice) sent laws accepts x is c e = absurd cc

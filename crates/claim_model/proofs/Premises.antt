@@ -10,7 +10,7 @@ use Rattle.claim_model.specs.Payments.{Payment, payment_of}
 use Rattle.claim_model.specs.Rows.{Book, ruled_rows}
 use Rattle.claim_model.specs.Judgement.{judged, ruling}
 use Rattle.claim_model.specs.Book.{answered}
-use Rattle.claim_model.specs.Journal.{JournalAtRest, submitted, ticked, due, heard, stopped, started}
+use Rattle.claim_model.specs.Journal.{opening_rule, JournalAtRest, submitted, ticked, due, heard, stopped, started}
 use Rattle.claim_model.specs.Counted.{Counted, counted}
 use Rattle.claim_model.specs.Table.{requested, responded}
 use Rattle.claim_model.specs.Node.{Pharmacy, Switch, Up}
@@ -75,7 +75,7 @@ split_held = refl
 
 -- a journal that is lost at a stop: its number is given again, an old answer settles the new claim, and what is counted has another fill than what was paid
 abbrev pub without_journal : World → World
-without_journal w = record { pharmacies = Up (record { number = 1; settings = pharmacy 7 (1 ∷ 2 ∷ []) 100; entries = [] }) ∷ []; switches = w.switches; payers = w.payers; packets = w.packets }
+without_journal w = record { pharmacies = Up (record { number = 1; settings = pharmacy 7 (1 ∷ 2 ∷ []) 100; rule = opening_rule (pharmacy 7 (1 ∷ 2 ∷ []) 100); entries = [] }) ∷ []; switches = w.switches; payers = w.payers; packets = w.packets }
 
 abbrev pub forgotten : World
 forgotten = run small (without_journal (run small one (Submission 1 c1 ∷ Delivery 1 ∷ Delivery 2 ∷ Delivery 3 ∷ []))) (Submission 1 (1 ∷ 7 ∷ 4 ∷ 11 ∷ []) ∷ Delivery 4 ∷ [])

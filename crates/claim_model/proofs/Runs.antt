@@ -5,10 +5,10 @@ use Rattle.claim_model.specs.Context.{Context}
 use Rattle.claim_model.specs.Laws.{Laws}
 use Rattle.claim_model.specs.Numbered.{numbered}
 use Rattle.claim_model.specs.Rows.{Book}
-use Rattle.claim_model.specs.Journal.{PharmacySettings, Journal, JournalAtRest, stopped}
+use Rattle.claim_model.specs.Journal.{opening_rule, PharmacySettings, Journal, JournalAtRest, stopped}
 use Rattle.claim_model.specs.Table.{Table}
-use Rattle.claim_model.specs.Node.{Node, Pharmacy, Switch, Payer, Power, Up, Sent, Call, Submit, Tick, Take, Stop, Start, Reprice, Adjudicate, Outcome, Done, Refused, pharmacy_step, switch_step, payer_step}
-use Rattle.claim_model.specs.World.{World, Packet, Event, Submission, Ticking, Delivery, Stopping, Starting, PlanChange, Adjudication, pharmacy_stepped, on_pharmacy, switch_stepped, on_switch, payer_stepped, on_payer, on_node, delivered, adjudicated, step, world_after, run}
+use Rattle.claim_model.specs.Node.{Node, Pharmacy, Switch, Payer, Power, Up, Sent, Call, Submit, Tick, Take, Stop, Start, Revise, Adjudicate, Outcome, Done, Refused, pharmacy_step, switch_step, payer_step}
+use Rattle.claim_model.specs.World.{World, Packet, Event, Submission, Ticking, Delivery, Stopping, Starting, Revising, Adjudication, pharmacy_stepped, on_pharmacy, switch_stepped, on_switch, payer_stepped, on_payer, on_node, delivered, adjudicated, step, world_after, run}
 use Rattle.claim_model.specs.Settings.{WorldSettings, PayerSettings, Accepts, pharmacies_from, switches_of, payers_from, opening}
 use Rattle.claim_model.specs.Held.{journal_in, book_in}
 use Rattle.claim_model.specs.Carried.{IsVouched}
@@ -22,15 +22,15 @@ use Rattle.claim_model.proofs.PayerStep.{payer_sound}
 -- the opening
 
 pub pharmacy_opens : (m : ℕ) (ss : List PharmacySettings) (k : ℕ) (s : Power Journal JournalAtRest) → slice_get (pharmacies_from m ss) k ≡ Some s
-    → (p : PharmacySettings) × (slice_get ss k ≡ Some p) × (s ≡ Up (record { number = m + k; settings = p; entries = [] }))
+    → (p : PharmacySettings) × (slice_get ss k ≡ Some p) × (s ≡ Up (record { number = m + k; settings = p; rule = opening_rule p; entries = [] }))
 pharmacy_opens m [] k s e = absurd cc
 pharmacy_opens m (p ∷ ss) zero s e =
-    let f : Up (record { number = m; settings = p; entries = [] }) ≡ s = cc in
-    (p, refl, sym f ∙ ap (λ (n : ℕ). Up (record { number = n; settings = p; entries = [] })) (sym (add-zero m)))
+    let f : Up (record { number = m; settings = p; rule = opening_rule p; entries = [] }) ≡ s = cc in
+    (p, refl, sym f ∙ ap (λ (n : ℕ). Up (record { number = n; settings = p; rule = opening_rule p; entries = [] })) (sym (add-zero m)))
 pharmacy_opens m (p ∷ ss) (suc k) s e =
     let r = pharmacy_opens (m + 1) ss k s e in
     let n : m + 1 + k ≡ m + suc k = omega arith in
-    (r.0, r.1, r.2 ∙ ap (λ (x : ℕ). Up (record { number = x; settings = r.0; entries = [] })) n)
+    (r.0, r.1, r.2 ∙ ap (λ (x : ℕ). Up (record { number = x; settings = r.0; rule = opening_rule r.0; entries = [] })) n)
 
 pub payer_opens : (m : ℕ) (ss : List PayerSettings) (k : ℕ) (s : Power Book Book) → slice_get (payers_from m ss) k ≡ Some s
     → (p : PayerSettings) × (slice_get ss k ≡ Some p) × (s ≡ Up (record { payer = m + k; settings = p.book; plan = p.plan; rows = [] }))
@@ -52,7 +52,7 @@ pub no_entries : {A : Type 0} (k : ℕ) (a : A) → numbered [] k ≡ Some a →
 no_entries zero a e = cc
 no_entries (suc k) a e = cc
 
-new_journal : (ctx : Context) (given : WorldSettings) (w : World) (n : ℕ) (p : PharmacySettings) → numbered given.pharmacies n ≡ Some p → SoundJournal ctx given w n (record { number = n; settings = p; entries = [] })
+new_journal : (ctx : Context) (given : WorldSettings) (w : World) (n : ℕ) (p : PharmacySettings) → numbered given.pharmacies n ≡ Some p → SoundJournal ctx given w n (record { number = n; settings = p; rule = opening_rule p; entries = [] })
 new_journal ctx given w n p e = record { number = refl; settings = e; room = omega arith; entries = λ k f h. absurd (no_entries k f h) }
 
 opening_pharmacies : (ctx : Context) (given : WorldSettings) (n : ℕ) (s : Power Journal JournalAtRest) → numbered (pharmacies_from 1 given.pharmacies) n ≡ Some s → SoundJournal ctx given (opening given) n (journal_in s)
@@ -61,7 +61,7 @@ opening_pharmacies ctx given zero s e = absurd cc
 opening_pharmacies ctx given (suc k) s e =
     let r = pharmacy_opens 1 given.pharmacies k s e in
     let n : 1 + k ≡ suc k = omega arith in
-    let t : s ≡ Up (record { number = suc k; settings = r.0; entries = [] }) = r.2 ∙ ap (λ (x : ℕ). Up (record { number = x; settings = r.0; entries = [] })) n in
+    let t : s ≡ Up (record { number = suc k; settings = r.0; rule = opening_rule r.0; entries = [] }) = r.2 ∙ ap (λ (x : ℕ). Up (record { number = x; settings = r.0; rule = opening_rule r.0; entries = [] })) n in
     subst (λ y. SoundJournal ctx given (opening given) (suc k) (journal_in y)) (sym t) (new_journal ctx given (opening given) (suc k) r.0 r.1)
 
 opening_payers : (ctx : Context) (given : WorldSettings) (n : ℕ) (s : Power Book Book) → numbered (payers_from 1 given.payers) n ≡ Some s → SoundBook ctx given (opening given) n (book_in s)
@@ -152,7 +152,7 @@ event_made ctx w v (Ticking n) sent e = record { call = Tick; step_is = at_node 
 event_made ctx w v (Delivery k) sent e = delivery_made ctx w v k sent (numbered w.packets k) refl e
 event_made ctx w v (Stopping node) sent e = record { call = Stop; step_is = at_node ctx w v node Stop sent e; takes = λ all. tt }
 event_made ctx w v (Starting node) sent e = record { call = Start; step_is = at_node ctx w v node Start sent e; takes = λ all. tt }
-event_made ctx w v (PlanChange n change) sent e = record { call = Reprice change; step_is = at_node ctx w v (Payer n) (Reprice change) sent e; takes = λ all. tt }
+event_made ctx w v (Revising node revision) sent e = record { call = Revise revision; step_is = at_node ctx w v node (Revise revision) sent e; takes = λ all. tt }
 event_made ctx w v (Adjudication k advice) sent e = adjudication_made ctx w v k advice sent (numbered w.packets k) refl e
 
 pub step_sound : (ctx : Context) (given : WorldSettings) (w v : World) (call : Call) → Laws ctx → Accepts ctx given → Sound ctx given w → IsVouched ctx w call → Step ctx w v call → Kept_sound ctx given w v

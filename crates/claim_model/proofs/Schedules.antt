@@ -5,15 +5,15 @@ use Rattle.claim_profile.specs.Transaction.{transaction_code}
 use Rattle.claim_model.specs.Words.{Advice, SetPrice, SetTerms, TxnId, Envelope, Auth, Ruling, Paid, Duplicate, Reversed, Rejected, BadBin, DuplicateClaim, ReversalNotProcessed}
 use Rattle.claim_model.specs.Context.{Context}
 use Rattle.claim_model.specs.Readable.{readable, rulings_in, request_envelope, answer_envelope}
-use Rattle.claim_model.specs.Refusal.{Refusal, Down, AlreadyUp, NoSuchNode, NoSuchPacket, NotWaiting, AlreadySettled, JournalFull, SerialsUsedUp, BookFull, NumberReused, NotOurs, Unreadable, NotMine, NoSuchNumber, Differs, NotAdvised, NotAsked}
+use Rattle.claim_model.specs.Refusal.{Refusal, Down, AlreadyUp, NoSuchNode, NoSuchPacket, NotWaiting, AlreadySettled, JournalFull, SerialsUsedUp, BookFull, NumberReused, BadRule, NotOurs, Unreadable, NotMine, NoSuchNumber, Differs, NotAdvised, NotAsked}
 use Rattle.claim_model.specs.Rows.{Row, Book}
 use Rattle.claim_model.specs.Judgement.{judged, ruling}
 use Rattle.claim_model.specs.Book.{Answered, answered, unadvised}
-use Rattle.claim_model.specs.Journal.{PharmacySettings, Kept, JournalAtRest, Journal, Sending, Waits, Has, submitted, ticked, due, heard, stopped, started}
+use Rattle.claim_model.specs.Journal.{PharmacySettings, RetryRule, Kept, JournalAtRest, Journal, Sending, Waits, Has, submitted, ticked, due, heard, stopped, started, ruled_anew}
 use Rattle.claim_model.specs.Counted.{Counted, counted}
 use Rattle.claim_model.specs.Table.{Table, Routed, Forward, Back, Requested, requested, Responded, responded}
-use Rattle.claim_model.specs.Node.{Pharmacy, Switch, Payer, Up, Outcome, Done, Refused}
-use Rattle.claim_model.specs.World.{World, Event, Submission, Ticking, Delivery, Stopping, Starting, PlanChange, Adjudication, step, run, world_after}
+use Rattle.claim_model.specs.Node.{Pharmacy, Switch, Payer, OfPlan, OfRule, Up, Outcome, Done, Refused}
+use Rattle.claim_model.specs.World.{World, Event, Submission, Ticking, Delivery, Stopping, Starting, Revising, Adjudication, step, run, world_after}
 use Rattle.claim_model.specs.Settings.{opening}
 use Rattle.claim_model.specs.Held.{journal_at, book_at, held}
 use Rattle.claim_model.proofs.Small.{small, all_amounts}
@@ -302,7 +302,7 @@ unfolding one step answered readable transaction_code ruling judged submitted ti
 numbers_go_on = refl
 
 -- refusals that the world itself gives
-world_refusals : refusals one (Delivery 99 ∷ Stopping (Switch 2) ∷ Stopping (Switch 2) ∷ Starting (Pharmacy 1) ∷ Ticking 9 ∷ Delivery 0 ∷ PlanChange 2 (SetPrice [] None) ∷ Stopping (Payer 1) ∷ PlanChange 1 (SetTerms 0 0) ∷ [])
+world_refusals : refusals one (Delivery 99 ∷ Stopping (Switch 2) ∷ Stopping (Switch 2) ∷ Starting (Pharmacy 1) ∷ Ticking 9 ∷ Delivery 0 ∷ Revising (Payer 2) (OfPlan (SetPrice [] None)) ∷ Stopping (Payer 1) ∷ Revising (Payer 1) (OfPlan (SetTerms 0 0)) ∷ [])
     ≡ Some NoSuchPacket ∷ None ∷ Some Down ∷ Some AlreadyUp ∷ Some NoSuchNode ∷ Some NoSuchPacket ∷ Some NoSuchNode ∷ None ∷ Some Down ∷ []
 unfolding one step answered readable transaction_code ruling judged submitted ticked due requested responded heard stopped started counted held refusals_by pharmacy
 world_refusals = refl
@@ -318,7 +318,7 @@ oldest_leaves = refl
 
 -- the retry rule: again 2, tries 2, two switches; of eight ticks the second goes to switch 1, the fourth and the sixth to switch 2, the eighth to switch 1
 abbrev pub patient : Journal
-patient = record { number = 1; settings = record { qualifier = []; provider = 7 ∷ []; nodes = 1 ∷ 2 ∷ []; again = 2; tries = 2; cap = 9 }; entries = record { request = c1; state = Waits 0 } ∷ [] }
+patient = record { number = 1; settings = record { qualifier = []; provider = 7 ∷ []; nodes = 1 ∷ 2 ∷ []; again = 2; tries = 2; cap = 9 }; rule = record { nodes = 1 ∷ 2 ∷ []; again = 2; tries = 2 }; entries = record { request = c1; state = Waits 0 } ∷ [] }
 
 unfoldable pub ticks : Journal → List ℕ → List (List ℕ)
 ticks j [] = []
@@ -331,6 +331,27 @@ retries = refl
 retries_after_start : ticks (started (stopped patient)) (0 ∷ 0 ∷ 0 ∷ 0 ∷ 0 ∷ 0 ∷ []) ≡ [] ∷ (1 ∷ []) ∷ [] ∷ (1 ∷ []) ∷ [] ∷ (2 ∷ []) ∷ []
 unfolding ticks one step answered readable transaction_code ruling judged submitted ticked due requested responded heard stopped started counted held refusals_by pharmacy
 retries_after_start = refl
+
+-- the same entry under another rule, which is taken at once: to switch 2 alone, at each tick; and after a stop and a start
+abbrev pub hasty : RetryRule
+hasty = record { nodes = 2 ∷ []; again = 1; tries = 2 }
+
+retries_under_another_rule : ticks (ruled_anew hasty patient) (0 ∷ 0 ∷ 0 ∷ []) ≡ (2 ∷ []) ∷ (2 ∷ []) ∷ (2 ∷ []) ∷ []
+unfolding ticks one step answered readable transaction_code ruling judged submitted ticked due requested responded heard stopped started ruled_anew counted held refusals_by pharmacy
+retries_under_another_rule = refl
+
+rule_outlives_a_stop : ticks (started (stopped (ruled_anew hasty patient))) (0 ∷ 0 ∷ []) ≡ (2 ∷ []) ∷ (2 ∷ []) ∷ []
+unfolding ticks one step answered readable transaction_code ruling judged submitted ticked due requested responded heard stopped started ruled_anew counted held refusals_by pharmacy
+rule_outlives_a_stop = refl
+
+-- which rules are refused, and where: a switch that is not there, none, a wait of nothing, too many tries; a node of another kind, a pharmacy that is down
+rules_refused : refusals one (
+    Revising (Pharmacy 1) (OfRule hasty) ∷ Revising (Pharmacy 1) (OfRule (record { nodes = 1 ∷ 3 ∷ []; again = 1; tries = 1 })) ∷ Revising (Pharmacy 1) (OfRule (record { nodes = 0 ∷ []; again = 1; tries = 1 }))
+    ∷ Revising (Pharmacy 1) (OfRule (record { nodes = []; again = 1; tries = 1 })) ∷ Revising (Pharmacy 1) (OfRule (record { nodes = 1 ∷ []; again = 0; tries = 1 })) ∷ Revising (Pharmacy 1) (OfRule (record { nodes = 1 ∷ []; again = 1; tries = 1001 }))
+    ∷ Revising (Switch 1) (OfRule hasty) ∷ Revising (Payer 1) (OfRule hasty) ∷ Revising (Pharmacy 1) (OfPlan (SetTerms 0 0)) ∷ Revising (Pharmacy 2) (OfRule hasty) ∷ Stopping (Pharmacy 1) ∷ Revising (Pharmacy 1) (OfRule hasty) ∷ [])
+    ≡ None ∷ Some BadRule ∷ Some BadRule ∷ Some BadRule ∷ Some BadRule ∷ Some BadRule ∷ Some NoSuchNode ∷ Some NoSuchNode ∷ Some NoSuchNode ∷ Some NoSuchNode ∷ None ∷ Some Down ∷ []
+unfolding one step answered readable transaction_code ruling judged submitted ticked due requested responded heard stopped started ruled_anew counted held refusals_by pharmacy
+rules_refused = refl
 
 -- a reversal by another pharmacy reverses nothing
 abbrev pub two : World
@@ -433,10 +454,10 @@ lost_at_a_stop = refl
 -- a pharmacy alone: what it refuses to hear
 
 abbrev pub one_open : Journal
-one_open = record { number = 1; settings = record { qualifier = []; provider = 7 ∷ []; nodes = 1 ∷ []; again = 1; tries = 1; cap = 9 }; entries = record { request = c1; state = Waits 0 } ∷ [] }
+one_open = record { number = 1; settings = record { qualifier = []; provider = 7 ∷ []; nodes = 1 ∷ []; again = 1; tries = 1; cap = 9 }; rule = record { nodes = 1 ∷ []; again = 1; tries = 1 }; entries = record { request = c1; state = Waits 0 } ∷ [] }
 
 abbrev pub one_settled : Journal
-one_settled = record { number = 1; settings = record { qualifier = []; provider = 7 ∷ []; nodes = 1 ∷ []; again = 1; tries = 1; cap = 9 }; entries = record { request = c1; state = Has a1 } ∷ [] }
+one_settled = record { number = 1; settings = record { qualifier = []; provider = 7 ∷ []; nodes = 1 ∷ []; again = 1; tries = 1; cap = 9 }; rule = record { nodes = 1 ∷ []; again = 1; tries = 1 }; entries = record { request = c1; state = Has a1 } ∷ [] }
 
 hears : heard small one_open (response_of 1 a1) ≡ Ok one_settled
 unfolding heard

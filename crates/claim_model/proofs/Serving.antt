@@ -5,7 +5,7 @@ use Rattle.std.proofs.lemmas.List.{append-nil}
 use Rattle.claim_model.specs.Context.{Context}
 use Rattle.claim_model.specs.Numbered.{numbered}
 use Rattle.claim_model.specs.Node.{Node, Sent, Done, Refused}
-use Rattle.claim_model.specs.World.{World, Packet, Event, Submission, Ticking, Delivery, Stopping, Starting, PlanChange, Adjudication, packet_from, step, run}
+use Rattle.claim_model.specs.World.{World, Packet, Event, Submission, Ticking, Delivery, Stopping, Starting, Revising, Adjudication, packet_from, step, run}
 use Rattle.claim_model.proofs.Lists.{numbered_append}
 use Rattle.claim_model.specs.Nodes.{AnyNode, node_step, node_at, called, Asked, taking, adjudicating, asked, asked_step}
 use Rattle.claim_model.specs.Logs.{Logged, logged_by, log_in}
@@ -74,7 +74,7 @@ asks_still before more (Ticking n) a e = e
 asks_still before more (Delivery k) a e = asks_with before more k a (numbered before k) refl e
 asks_still before more (Stopping node) a e = e
 asks_still before more (Starting node) a e = e
-asks_still before more (PlanChange n change) a e = e
+asks_still before more (Revising n change) a e = e
 asks_still before more (Adjudication k advice) a e = asks_adjudicated before more k advice a (numbered before k) refl e
 
 -- a node that makes no call stays as it is

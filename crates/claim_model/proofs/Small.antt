@@ -110,6 +110,7 @@ small =
       header = small_header;
       orders = small_orders;
       route = λ number key. cond (bytes_eq key.bin (4 ∷ [])) (Some 1) None;
+      switches = 2;
       price = λ plan claim. Some all_amounts;
       reprice = λ plan change. Ok plan;
       answer = λ header status rulings carried. small_answer header status rulings ++ carried;

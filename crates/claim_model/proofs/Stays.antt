@@ -8,15 +8,15 @@ use Rattle.claim_model.specs.Context.{Context}
 use Rattle.claim_model.specs.Numbered.{numbered, renumbered}
 use Rattle.claim_model.specs.Rows.{Row, Book}
 use Rattle.claim_model.specs.Book.{new_row}
-use Rattle.claim_model.specs.Journal.{Journal, JournalAtRest, Kept, submitted, ticked, due, heard, stopped, started}
-use Rattle.claim_model.specs.Node.{Power, Up, AtRest, Sent, Call, Submit, Tick, Take, Stop, Start, Reprice, Adjudicate, Outcome, Done, Refused, to_switch, pharmacy_takes, pharmacy_step}
+use Rattle.claim_model.specs.Journal.{RetryRule, Journal, JournalAtRest, Kept, submitted, ticked, due, heard, stopped, started, is_rule, with_rule, ruled_anew}
+use Rattle.claim_model.specs.Node.{Power, Up, AtRest, Sent, Call, Submit, Tick, Take, Stop, Start, Revise, OfPlan, OfRule, Adjudicate, Outcome, Done, Refused, to_switch, pharmacy_takes, pharmacy_step}
 use Rattle.claim_model.specs.World.{World, Event, step, world_after, run}
 use Rattle.claim_model.specs.Held.{journal_in, book_in, journal_at, book_at}
 use Rattle.claim_model.specs.Promises.{EntryStays, StaysDecided}
 use Rattle.claim_model.proofs.Lists.{numbered_put, numbered_put_other, numbered_append}
 use Rattle.claim_model.proofs.Options.{same_some}
-use Rattle.claim_model.proofs.Journals.{entry_added, entry_settled, Settles, submitted_enters, ticked_same, started_same, heard_settles}
-use Rattle.claim_model.proofs.PharmacyStep.{done_same, after_submit_done, after_hearing_done}
+use Rattle.claim_model.proofs.Journals.{entry_added, entry_settled, Settles, submitted_enters, ticked_same, started_same, ruled_same, heard_settles}
+use Rattle.claim_model.proofs.PharmacyStep.{done_same, rule_taken, after_submit_done, after_hearing_done}
 use Rattle.claim_model.proofs.Runs.{Step, At_pharmacy, At_switch, At_payer, event_made}
 use Rattle.claim_model.proofs.Books.{BookMoves, Same, Adds, payer_moves}
 
@@ -47,6 +47,9 @@ on_trans i j k f g =
 
 on_added : (j : JournalAtRest) (text : List ℕ) → Goes_on j (entry_added j text)
 on_added j text = record { number = refl; settings = refl; entries = λ k e h. record { entry = e; stands = numbered_append j.entries _ k e h; request = refl; answer = λ a f. f } }
+
+on_ruled : (j : JournalAtRest) (rule : RetryRule) → Goes_on j (with_rule rule j)
+on_ruled j rule = record { number = refl; settings = refl; entries = λ k e h. record { entry = e; stands = h; request = refl; answer = λ a f. f } }
 
 on_settled : (j : JournalAtRest) (number : ℕ) (e : Kept) (answer : List ℕ) → numbered j.entries number ≡ Some e → e.answer ≡ None → Goes_on j (entry_settled j number e answer)
 on_settled j number e answer stands is_open =
@@ -92,13 +95,17 @@ pharmacy_on ctx (Up j) next (Take from bytes) sent e = takes_on ctx j (ctx.read_
 pharmacy_on ctx (Up j) next Stop sent e = subst (λ y. Goes_on (stopped j) (journal_in y)) (done_same (AtRest (stopped j)) next [] sent e).0 (on_same (stopped j))
 pharmacy_on ctx (AtRest j) next Start sent e = subst (λ y. Goes_on j (journal_in y)) (done_same (Up (started j)) next [] sent e).0 (on_equal j (stopped (started j)) (started_same j))
 pharmacy_on ctx (Up j) next Start sent e = absurd cc
-pharmacy_on ctx (Up j) next (Reprice change) sent e = absurd cc
+pharmacy_on ctx (Up j) next (Revise (OfPlan change)) sent e = absurd cc
+pharmacy_on ctx (Up j) next (Revise (OfRule rule)) sent e =
+    let d = rule_taken (is_rule ctx.switches rule) (Up (ruled_anew rule j)) next [] sent e in
+    subst (λ y. Goes_on (stopped j) (journal_in y)) d.1 (subst (Goes_on (stopped j)) (sym (ruled_same rule j)) (on_ruled (stopped j) rule))
 pharmacy_on ctx (Up j) next (Adjudicate from bytes advice) sent e = absurd cc
 pharmacy_on ctx (AtRest j) next (Submit text) sent e = absurd cc
 pharmacy_on ctx (AtRest j) next Tick sent e = absurd cc
 pharmacy_on ctx (AtRest j) next (Take from bytes) sent e = absurd cc
 pharmacy_on ctx (AtRest j) next Stop sent e = absurd cc
-pharmacy_on ctx (AtRest j) next (Reprice change) sent e = absurd cc
+pharmacy_on ctx (AtRest j) next (Revise (OfPlan change)) sent e = absurd cc
+pharmacy_on ctx (AtRest j) next (Revise (OfRule rule)) sent e = absurd cc
 pharmacy_on ctx (AtRest j) next (Adjudicate from bytes advice) sent e = absurd cc
 
 -- books

@@ -8,7 +8,7 @@ use Rattle.claim_model.specs.Rows.{Book}
 use Rattle.claim_model.specs.Journal.{Journal, JournalAtRest}
 use Rattle.claim_model.specs.Table.{Table}
 use Rattle.claim_model.specs.Node.{Node, Pharmacy, Switch, Payer, Power, Sent, Call, Outcome, Done, Refused, pharmacy_step, switch_step, payer_step}
-use Rattle.claim_model.specs.World.{World, Packet, Event, Submission, Ticking, Delivery, Stopping, Starting, PlanChange, Adjudication, pharmacy_stepped, on_pharmacy, switch_stepped, on_switch, payer_stepped, on_payer, on_node, delivered, adjudicated, step}
+use Rattle.claim_model.specs.World.{World, Packet, Event, Submission, Ticking, Delivery, Stopping, Starting, Revising, Adjudication, pharmacy_stepped, on_pharmacy, switch_stepped, on_switch, payer_stepped, on_payer, on_node, delivered, adjudicated, step}
 use Rattle.claim_model.proofs.Lists.{numbered_put, numbered_put_other}
 use Rattle.claim_model.proofs.Sound.{with_pharmacy, with_switch, with_payer}
 use Rattle.claim_model.proofs.Runs.{pharmacy_done, switch_done, payer_done}
@@ -168,5 +168,5 @@ step_asked ctx w (Ticking n) = refl
 step_asked ctx w (Delivery k) = delivery_asks ctx w (numbered w.packets k)
 step_asked ctx w (Stopping node) = refl
 step_asked ctx w (Starting node) = refl
-step_asked ctx w (PlanChange n change) = refl
+step_asked ctx w (Revising n change) = refl
 step_asked ctx w (Adjudication k advice) = adjudication_asks ctx w advice (numbered w.packets k)

@@ -9,7 +9,7 @@ use Rattle.claim_model.specs.Readable.{readable, payer_for, rejection, same_id, 
 use Rattle.claim_model.specs.Refusal.{Refusal}
 use Rattle.claim_model.specs.Numbered.{numbered}
 use Rattle.claim_model.specs.Table.{Slot, Table, Routed, Forward, Back, Requested, slot_of, routed_by, requested_again, entered_where, requested_by, requested_readable, requested, Responded, responded_with, responded_by, responded_readable, responded}
-use Rattle.claim_model.specs.Node.{Node, Power, Up, AtRest, Sent, Call, Submit, Tick, Take, Stop, Start, Reprice, Adjudicate, Done, to_payer_or_back, after_request, after_response, switch_takes, switch_step}
+use Rattle.claim_model.specs.Node.{Node, Power, Up, AtRest, Sent, Call, Submit, Tick, Take, Stop, Start, Revise, Adjudicate, Done, to_payer_or_back, after_request, after_response, switch_takes, switch_step}
 use Rattle.claim_model.specs.World.{World, packet_from}
 use Rattle.claim_model.specs.Settings.{WorldSettings}
 use Rattle.claim_model.specs.Held.{asked, decided}
@@ -195,13 +195,13 @@ taken ctx given w (AtRest cap) next Start sent laws x all c e =
 taken ctx given w (Up t) next (Submit text) sent laws x all c e = absurd cc
 taken ctx given w (Up t) next Tick sent laws x all c e = absurd cc
 taken ctx given w (Up t) next Start sent laws x all c e = absurd cc
-taken ctx given w (Up t) next (Reprice change) sent laws x all c e = absurd cc
+taken ctx given w (Up t) next (Revise change) sent laws x all c e = absurd cc
 taken ctx given w (Up t) next (Adjudicate from bytes advice) sent laws x all c e = absurd cc
 taken ctx given w (AtRest cap) next (Submit text) sent laws x all c e = absurd cc
 taken ctx given w (AtRest cap) next Tick sent laws x all c e = absurd cc
 taken ctx given w (AtRest cap) next (Take from bytes) sent laws x all c e = absurd cc
 taken ctx given w (AtRest cap) next Stop sent laws x all c e = absurd cc
-taken ctx given w (AtRest cap) next (Reprice change) sent laws x all c e = absurd cc
+taken ctx given w (AtRest cap) next (Revise change) sent laws x all c e = absurd cc
 taken ctx given w (AtRest cap) next (Adjudicate from bytes advice) sent laws x all c e = absurd cc
 
 pub switch_sound : (ctx : Context) (given : WorldSettings) (w : World) (n : ℕ) (s next : Power Table ℕ) (call : Call) (sent : List Sent)

@@ -13,7 +13,7 @@ use Rattle.claim_model.specs.Readable.{readable, payer_for, same_id, is_request}
 use Rattle.claim_model.specs.Refusal.{Refusal}
 use Rattle.claim_model.specs.Numbered.{numbered, renumbered}
 use Rattle.claim_model.specs.Table.{Slot, Table, slot_of, Requested, requested_again, entered_where, requested_by, requested_readable, requested, filled, Responded, responded_with, responded_by, responded_readable, responded}
-use Rattle.claim_model.specs.Node.{Power, Up, AtRest, Sent, Call, Submit, Tick, Take, Stop, Start, Reprice, Adjudicate, Outcome, Done, Refused, after_request, after_response, switch_takes, switch_step}
+use Rattle.claim_model.specs.Node.{Power, Up, AtRest, Sent, Call, Submit, Tick, Take, Stop, Start, Revise, Adjudicate, Outcome, Done, Refused, after_request, after_response, switch_takes, switch_step}
 use Rattle.claim_model.specs.World.{World, Event, step, world_after, run}
 use Rattle.claim_model.specs.Settings.{WorldSettings, switches_of, opening}
 use Rattle.claim_model.specs.InFlight.{IsInFlight, TablesInFlight}
@@ -184,13 +184,13 @@ switch_stands given ctx (AtRest cap) next Start sent some h e = let same : Up (r
 switch_stands given ctx (Up t) next (Submit text) sent some h e = absurd cc
 switch_stands given ctx (Up t) next Tick sent some h e = absurd cc
 switch_stands given ctx (Up t) next Start sent some h e = absurd cc
-switch_stands given ctx (Up t) next (Reprice change) sent some h e = absurd cc
+switch_stands given ctx (Up t) next (Revise change) sent some h e = absurd cc
 switch_stands given ctx (Up t) next (Adjudicate from bytes advice) sent some h e = absurd cc
 switch_stands given ctx (AtRest cap) next (Submit text) sent some h e = absurd cc
 switch_stands given ctx (AtRest cap) next Tick sent some h e = absurd cc
 switch_stands given ctx (AtRest cap) next (Take from bytes) sent some h e = absurd cc
 switch_stands given ctx (AtRest cap) next Stop sent some h e = absurd cc
-switch_stands given ctx (AtRest cap) next (Reprice change) sent some h e = absurd cc
+switch_stands given ctx (AtRest cap) next (Revise change) sent some h e = absurd cc
 switch_stands given ctx (AtRest cap) next (Adjudicate from bytes advice) sent some h e = absurd cc
 
 -- ---- all switches of a world

@@ -6,7 +6,7 @@ use Rattle.std.proofs.lemmas.List.{append-nil}
 use Rattle.claim_model.specs.Context.{Context}
 use Rattle.claim_model.specs.Numbered.{numbered}
 use Rattle.claim_model.specs.Node.{Node, Sent, Done}
-use Rattle.claim_model.specs.World.{World, Packet, Event, Submission, Ticking, Delivery, Stopping, Starting, PlanChange, Adjudication, packet_from, step, run}
+use Rattle.claim_model.specs.World.{World, Packet, Event, Submission, Ticking, Delivery, Stopping, Starting, Revising, Adjudication, packet_from, step, run}
 use Rattle.claim_model.proofs.Lists.{all_at, all_from, all_append, all_filter}
 use Rattle.claim_model.specs.Nodes.{AnyNode, node_step, node_at, called, Asked, taking, adjudicating, asked, asked_step}
 use Rattle.claim_model.specs.Logs.{Logged, log_in, node_after, replay, posted_by, is_from}
@@ -76,7 +76,7 @@ again v m (Ticking n) a all e = record { event = Ticking n; asks = e }
 again v m (Delivery k) a all e = delivered_again v m k a (numbered v.packets k) all refl e
 again v m (Stopping node) a all e = record { event = Stopping node; asks = e }
 again v m (Starting node) a all e = record { event = Starting node; asks = e }
-again v m (PlanChange n change) a all e = record { event = PlanChange n change; asks = e }
+again v m (Revising n change) a all e = record { event = Revising n change; asks = e }
 again v m (Adjudication k advice) a all e = adjudicated_again v m k advice a (numbered v.packets k) all refl e
 
 -- what two logs share

@@ -44,12 +44,13 @@ abbrev pub kept_under : Option RequestHeader → List Ruling → List ℕ → Li
 kept_under None rulings said = []
 kept_under (Some header) rulings said = kept_text header AcceptedStatus rulings said
 
--- the reading of bytes with these routes
+-- the reading of bytes with these routes, among these switches
 abbrev pub bytes_with : RouteMaps → Context
 bytes_with routes = record {
   header = λ text. header_in (transmission_of request_kind text);
   orders = λ text. orders_in (transmission_of request_kind text);
   route = λ number key. payer_under routes number key;
+  switches = routes.switches;
   price = paid;
   reprice = changed;
   answer = carrying_text;

@@ -3,7 +3,7 @@ use Rattle.std.specs.Prelude.{◌≡◌, ⊤, List, ℕ, Some}
 use Rattle.claim_model.specs.Words.{TxnId, Kind, Request, Response, Envelope}
 use Rattle.claim_model.specs.Context.{Context}
 use Rattle.claim_model.specs.Laws.{IsEnvelope}
-use Rattle.claim_model.specs.Node.{Call, Submit, Tick, Take, Stop, Start, Reprice, Adjudicate}
+use Rattle.claim_model.specs.Node.{Call, Submit, Tick, Take, Stop, Start, Revise, Adjudicate}
 use Rattle.claim_model.specs.World.{World}
 use Rattle.claim_model.specs.Held.{asked, decided}
 
@@ -26,5 +26,5 @@ IsVouched ctx w (Submit text) = ⊤
 IsVouched ctx w Tick = ⊤
 IsVouched ctx w Stop = ⊤
 IsVouched ctx w Start = ⊤
-IsVouched ctx w (Reprice change) = ⊤
+IsVouched ctx w (Revise change) = ⊤
 IsVouched ctx w (Adjudicate from bytes advice) = Carries ctx w bytes

@@ -9,6 +9,8 @@ pub record Context : Type 0 where
   pub orders : List ℕ → List (Result Order (List Code))
   -- the payer of a request, by its number, and by its BIN, its PCN, and its provider with the qualifier, by the one route table
   pub route : ℕ → RouteKey → Option ℕ
+  -- how many switches there are
+  pub switches : ℕ
   -- what a plan pays for a claim; none where the product is not on the plan
   pub price : Plan → Claim → Option Amounts
   -- the plan with a new price for a product, or without the product

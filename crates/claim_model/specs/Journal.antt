@@ -1,5 +1,6 @@
--- A pharmacy's journal: submit, tick, hear, stop and start.
-use Rattle.std.specs.Prelude.{ℕ, ◌+◌, ◌-◌, ◌*◌, ◌/◌, ◌%◌, Bool, cond, not, ◌&&◌, ◌==◌, nat_lt, nat_le, List, [], ◌∷◌, ◌++◌, map, length, Option, Some, None, Result, Ok, Err, slice_index, bytes_eq}
+-- A pharmacy's journal: submit, tick, hear, another rule of retries, stop and start.
+use Rattle.std.specs.Prelude.{ℕ, zero, suc, ◌+◌, ◌-◌, ◌*◌, ◌/◌, ◌%◌, Bool, true, false, cond, not, ◌&&◌, ◌==◌, nat_lt, nat_le, List, [], ◌∷◌, ◌++◌, map, length, Option, Some, None, Result, Ok, Err, slice_index, bytes_eq}
+use Rattle.std.specs.List.{list_all}
 use Rattle.claim_model.specs.Numbered.{numbered, renumbered}
 use Rattle.claim_model.specs.Words.{RequestHeader, Envelope}
 use Rattle.claim_model.specs.Context.{Context}
@@ -15,6 +16,17 @@ pub record PharmacySettings : Type 0 where
   pub tries : ℕ
   pub cap : ℕ
 
+-- the rule of retries that a pharmacy goes by: the switches that it tries in turn, after how many ticks it sends again, and how often before it goes on
+-- to the next switch
+pub record RetryRule : Type 0 where
+  pub nodes : List ℕ
+  pub again : ℕ
+  pub tries : ℕ
+
+-- the rule with which settings open a pharmacy
+abbrev pub opening_rule : PharmacySettings → RetryRule
+opening_rule s = record { nodes = s.nodes; again = s.again; tries = s.tries }
+
 -- an open entry has one phase on the circle of retries; a settled one has its answer for good
 pub data State : Type 0 where
   Waits : (phase : ℕ) → State
@@ -25,10 +37,11 @@ pub record Entry : Type 0 where
   pub request : List ℕ
   pub state : State
 
--- the journal of a pharmacy that is up: its entries, numbered from 1
+-- the journal of a pharmacy that is up: what it was opened with, the rule that it goes by, and its entries, numbered from 1
 pub record Journal : Type 0 where
   pub number : ℕ
   pub settings : PharmacySettings
+  pub rule : RetryRule
   pub entries : List Entry
 
 -- an entry at rest: its request, and its answer if there is one
@@ -40,6 +53,7 @@ pub record Kept : Type 0 where
 pub record JournalAtRest : Type 0 where
   pub number : ℕ
   pub settings : PharmacySettings
+  pub rule : RetryRule
   pub entries : List Kept
 
 -- a packet for a switch
@@ -48,16 +62,16 @@ pub record Sending : Type 0 where
   pub bytes : List ℕ
 
 -- how many phases there are: again x tries x nodes
-abbrev pub circle : PharmacySettings → ℕ
-circle s = s.again * s.tries * length s.nodes
+abbrev pub circle : RetryRule → ℕ
+circle r = r.again * r.tries * length r.nodes
 
 -- the switch to which an entry of this phase is sent
-abbrev pub switch_at : PharmacySettings → ℕ → ℕ
-switch_at s phase = slice_index s.nodes (phase / (s.again * s.tries))
+abbrev pub switch_at : RetryRule → ℕ → ℕ
+switch_at r phase = slice_index r.nodes (phase / (r.again * r.tries))
 
 abbrev pub sending : Context → Journal → ℕ → ℕ → List ℕ → Sending
 sending ctx j number phase request =
-    record { switch = switch_at j.settings phase; bytes = ctx.envelope (request_envelope (record { pharmacy = j.number; number = number }) request) }
+    record { switch = switch_at j.rule phase; bytes = ctx.envelope (request_envelope (record { pharmacy = j.number; number = number }) request) }
 
 -- the first fault whose condition holds
 abbrev pub first_fault : List (Bool × Refusal) → Option Refusal
@@ -90,7 +104,7 @@ submitted_unless ctx j text (Some fault) = Err fault
 submitted_unless ctx j text None =
     let number = length j.entries + 1 in
     Ok (record {
-      journal = record { number = j.number; settings = j.settings; entries = j.entries ++ record { request = text; state = Waits 0 } ∷ [] };
+      journal = record { number = j.number; settings = j.settings; rule = j.rule; entries = j.entries ++ record { request = text; state = Waits 0 } ∷ [] };
       number = number;
       sent = sending ctx j number 0 text;
     })
@@ -105,10 +119,10 @@ ticked_state phases (Has answer) = Has answer
 
 -- a tick moves each open entry on by one phase
 unfoldable pub ticked : Journal → Journal
-ticked j = record { number = j.number; settings = j.settings; entries = map (λ e. record { request = e.request; state = ticked_state (circle j.settings) e.state }) j.entries }
+ticked j = record { number = j.number; settings = j.settings; rule = j.rule; entries = map (λ e. record { request = e.request; state = ticked_state (circle j.rule) e.state }) j.entries }
 
 abbrev pub due_by : Context → Journal → ℕ → List ℕ → State → List Sending
-due_by ctx j number request (Waits phase) = cond ((phase % j.settings.again) == 0) (sending ctx j number phase request ∷ []) []
+due_by ctx j number request (Waits phase) = cond ((phase % j.rule.again) == 0) (sending ctx j number phase request ∷ []) []
 due_by ctx j number request (Has answer) = []
 
 abbrev pub due_from : Context → Journal → ℕ → List Entry → List Sending
@@ -126,7 +140,7 @@ settle_by answer (Has held) = cond (bytes_eq held answer) (Err AlreadySettled) (
 abbrev pub settle_with : Journal → ℕ → Entry → Result State Refusal → Result Journal Refusal
 settle_with j number e (Err fault) = Err fault
 settle_with j number e (Ok state) =
-    Ok (record { number = j.number; settings = j.settings; entries = renumbered j.entries number (record { request = e.request; state = state }) })
+    Ok (record { number = j.number; settings = j.settings; rule = j.rule; entries = renumbered j.entries number (record { request = e.request; state = state }) })
 
 abbrev pub heard_at : Context → Journal → Envelope → Option Entry → Result Journal Refusal
 heard_at ctx j e None = Err NoSuchNumber
@@ -146,7 +160,7 @@ kept_entry e = record { request = e.request; answer = answer_in e.state }
 
 -- a stop keeps every entry, and no phase
 unfoldable pub stopped : Journal → JournalAtRest
-stopped j = record { number = j.number; settings = j.settings; entries = map kept_entry j.entries }
+stopped j = record { number = j.number; settings = j.settings; rule = j.rule; entries = map kept_entry j.entries }
 
 abbrev pub started_state : ℕ → Option (List ℕ) → State
 started_state phase None = Waits phase
@@ -154,4 +168,42 @@ started_state phase (Some answer) = Has answer
 
 -- after a start each open entry is one round of waiting before the circle's beginning
 unfoldable pub started : JournalAtRest → Journal
-started j = record { number = j.number; settings = j.settings; entries = map (λ k. record { request = k.request; state = started_state (circle j.settings - j.settings.again) k.answer }) j.entries }
+started j = record { number = j.number; settings = j.settings; rule = j.rule; entries = map (λ k. record { request = k.request; state = started_state (circle j.rule - j.rule.again) k.answer }) j.entries }
+
+-- ---- another rule of retries
+
+abbrev pub is_empty : {A : Type 0} → List A → Bool
+is_empty [] = true
+is_empty (x ∷ xs) = false
+
+-- a switch of this number is there
+abbrev pub is_switch : ℕ → ℕ → Bool
+is_switch switches zero = false
+is_switch switches (suc k) = nat_lt k switches
+
+-- there is a switch to send to, and all of them are there
+abbrev pub have_switches : ℕ → List ℕ → Bool
+have_switches switches nodes = not (is_empty nodes) && list_all (is_switch switches) nodes
+
+-- the most ticks of a wait, the most tries at one switch, and the most switches of a rule
+abbrev pub most_rounds : ℕ
+most_rounds = 1000
+
+abbrev pub most_nodes : ℕ
+most_nodes = 4096
+
+-- a number is 1 to the most rounds
+abbrev pub is_rounds : ℕ → Bool
+is_rounds n = nat_lt 0 n && nat_le n most_rounds
+
+-- a rule that a pharmacy takes, where there are so many switches
+abbrev pub is_rule : ℕ → RetryRule → Bool
+is_rule switches r = is_rounds r.again && (is_rounds r.tries && (have_switches switches r.nodes && nat_le (length r.nodes) most_nodes))
+
+-- a journal at rest, with another rule
+abbrev pub with_rule : RetryRule → JournalAtRest → JournalAtRest
+with_rule r j = record { number = j.number; settings = j.settings; rule = r; entries = j.entries }
+
+-- a pharmacy that goes by another rule: each open entry waits as after a start
+unfoldable pub ruled_anew : RetryRule → Journal → Journal
+ruled_anew r j = started (with_rule r (stopped j))

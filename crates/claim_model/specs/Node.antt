@@ -3,10 +3,10 @@ use Rattle.std.specs.Prelude.{ℕ, cond, List, [], ◌∷◌, map, Result, Ok, E
 use Rattle.claim_model.specs.Words.{TxnId, Envelope, EnvelopeFault, Plan, PlanFault, Advice, Change}
 use Rattle.claim_model.specs.Context.{Context}
 use Rattle.claim_model.specs.Readable.{is_request, answer_envelope, rulings_in}
-use Rattle.claim_model.specs.Refusal.{Refusal, NoSuchNode, Down, AlreadyUp, NoEnvelope, NotPriced, Unreadable, NotAsked}
+use Rattle.claim_model.specs.Refusal.{Refusal, NoSuchNode, Down, AlreadyUp, NoEnvelope, NotPriced, Unreadable, NotAsked, BadRule}
 use Rattle.claim_model.specs.Rows.{Book}
 use Rattle.claim_model.specs.Book.{Answered, answered, unadvised}
-use Rattle.claim_model.specs.Journal.{Journal, JournalAtRest, Sending, Submitted, submitted, ticked, due, heard, stopped, started}
+use Rattle.claim_model.specs.Journal.{RetryRule, is_rule, Journal, JournalAtRest, Sending, Submitted, submitted, ticked, due, heard, stopped, started, ruled_anew}
 use Rattle.claim_model.specs.Table.{Table, Routed, Forward, Back, Requested, requested, Responded, responded}
 
 -- a node by its kind and its number, from 1
@@ -20,6 +20,11 @@ pub record Sent : Type 0 where
   pub to : Node
   pub bytes : List ℕ
 
+-- what changes by a call: the plan of a payer, or the rule of retries of a pharmacy
+pub data Revision : Type 0 where
+  OfPlan : Change → Revision
+  OfRule : RetryRule → Revision
+
 -- a call on one node. Adjudicate takes a packet with an advice: the answer of the payer's own system to the request in it
 pub data Call : Type 0 where
   Submit : (text : List ℕ) → Call
@@ -27,7 +32,7 @@ pub data Call : Type 0 where
   Take : (from : Node) → (bytes : List ℕ) → Call
   Stop : Call
   Start : Call
-  Reprice : Change → Call
+  Revise : Revision → Call
   Adjudicate : (from : Node) → (bytes : List ℕ) → (advice : List ℕ) → Call
 
 -- a node is up, or at rest with what it keeps
@@ -63,7 +68,8 @@ pharmacy_up ctx j Tick = Done (Up (ticked j)) (map to_switch (due ctx (ticked j)
 pharmacy_up ctx j (Take from bytes) = pharmacy_takes ctx j (ctx.read_envelope bytes)
 pharmacy_up ctx j Stop = Done (AtRest (stopped j)) []
 pharmacy_up ctx j Start = Refused AlreadyUp
-pharmacy_up ctx j (Reprice change) = Refused NoSuchNode
+pharmacy_up ctx j (Revise (OfPlan change)) = Refused NoSuchNode
+pharmacy_up ctx j (Revise (OfRule rule)) = cond (is_rule ctx.switches rule) (Done (Up (ruled_anew rule j)) []) (Refused BadRule)
 pharmacy_up ctx j (Adjudicate from bytes advice) = Refused NoSuchNode
 
 abbrev pub pharmacy_at_rest : JournalAtRest → Call → Outcome (Power Journal JournalAtRest)
@@ -72,7 +78,8 @@ pharmacy_at_rest j Tick = Refused Down
 pharmacy_at_rest j (Take from bytes) = Refused Down
 pharmacy_at_rest j Stop = Refused Down
 pharmacy_at_rest j Start = Done (Up (started j)) []
-pharmacy_at_rest j (Reprice change) = Refused NoSuchNode
+pharmacy_at_rest j (Revise (OfPlan change)) = Refused NoSuchNode
+pharmacy_at_rest j (Revise (OfRule rule)) = Refused Down
 pharmacy_at_rest j (Adjudicate from bytes advice) = Refused NoSuchNode
 
 -- a call on a pharmacy
@@ -104,7 +111,7 @@ switch_up ctx t Tick = Refused NoSuchNode
 switch_up ctx t (Take from bytes) = switch_takes ctx t (ctx.read_envelope bytes)
 switch_up ctx t Stop = Done (AtRest t.cap) []
 switch_up ctx t Start = Refused AlreadyUp
-switch_up ctx t (Reprice change) = Refused NoSuchNode
+switch_up ctx t (Revise revision) = Refused NoSuchNode
 switch_up ctx t (Adjudicate from bytes advice) = Refused NoSuchNode
 
 abbrev pub switch_at_rest : ℕ → Call → Outcome (Power Table ℕ)
@@ -113,7 +120,7 @@ switch_at_rest cap Tick = Refused NoSuchNode
 switch_at_rest cap (Take from bytes) = Refused Down
 switch_at_rest cap Stop = Refused Down
 switch_at_rest cap Start = Done (Up (record { cap = cap; entries = [] })) []
-switch_at_rest cap (Reprice change) = Refused NoSuchNode
+switch_at_rest cap (Revise revision) = Refused NoSuchNode
 switch_at_rest cap (Adjudicate from bytes advice) = Refused NoSuchNode
 
 -- a call on a switch
@@ -145,7 +152,8 @@ payer_up ctx b Tick = Refused NoSuchNode
 payer_up ctx b (Take from bytes) = payer_takes ctx b unadvised from (ctx.read_envelope bytes)
 payer_up ctx b Stop = Done (AtRest b) []
 payer_up ctx b Start = Refused AlreadyUp
-payer_up ctx b (Reprice change) = after_reprice b (ctx.reprice b.plan change)
+payer_up ctx b (Revise (OfPlan change)) = after_reprice b (ctx.reprice b.plan change)
+payer_up ctx b (Revise (OfRule rule)) = Refused NoSuchNode
 payer_up ctx b (Adjudicate from bytes advice) = cond b.settings.asks (payer_takes ctx b (advice_in ctx advice) from (ctx.read_envelope bytes)) (Refused NotAsked)
 
 abbrev pub payer_at_rest : Book → Call → Outcome (Power Book Book)
@@ -154,7 +162,8 @@ payer_at_rest b Tick = Refused NoSuchNode
 payer_at_rest b (Take from bytes) = Refused Down
 payer_at_rest b Stop = Refused Down
 payer_at_rest b Start = Done (Up b) []
-payer_at_rest b (Reprice change) = Refused Down
+payer_at_rest b (Revise (OfPlan change)) = Refused Down
+payer_at_rest b (Revise (OfRule rule)) = Refused NoSuchNode
 payer_at_rest b (Adjudicate from bytes advice) = Refused Down
 
 -- a call on a payer

@@ -6,8 +6,8 @@ use Rattle.claim_model.specs.Numbered.{numbered}
 use Rattle.claim_model.specs.Journal.{Journal, JournalAtRest}
 use Rattle.claim_model.specs.Table.{Table}
 use Rattle.claim_model.specs.Rows.{Book}
-use Rattle.claim_model.specs.Node.{Node, Pharmacy, Switch, Payer, Call, Submit, Tick, Take, Stop, Start, Reprice, Adjudicate, Power, Outcome, Done, Refused, pharmacy_step, switch_step, payer_step}
-use Rattle.claim_model.specs.World.{World, Packet, Event, Submission, Ticking, Delivery, Stopping, Starting, PlanChange, Adjudication, on_node}
+use Rattle.claim_model.specs.Node.{Node, Pharmacy, Switch, Payer, Call, Submit, Tick, Take, Stop, Start, Revise, Adjudicate, Power, Outcome, Done, Refused, pharmacy_step, switch_step, payer_step}
+use Rattle.claim_model.specs.World.{World, Packet, Event, Submission, Ticking, Delivery, Stopping, Starting, Revising, Adjudication, on_node}
 
 -- a pharmacy, a switch or a payer, up or at rest
 pub data AnyNode : Type 0 where
@@ -67,7 +67,7 @@ asked packets (Ticking n) = Some (record { node = Pharmacy n; call = Tick })
 asked packets (Delivery k) = option_map taking (numbered packets k)
 asked packets (Stopping node) = Some (record { node = node; call = Stop })
 asked packets (Starting node) = Some (record { node = node; call = Start })
-asked packets (PlanChange n change) = Some (record { node = Payer n; call = Reprice change })
+asked packets (Revising node revision) = Some (record { node = node; call = Revise revision })
 asked packets (Adjudication k advice) = option_map (adjudicating advice) (numbered packets k)
 
 -- that call, in a world

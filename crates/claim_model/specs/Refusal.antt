@@ -22,6 +22,8 @@ pub use Rattle.claim_model.specs.declared.refusal.Refusal.TheVariants.{NotOurs, 
 pub use Rattle.claim_model.specs.declared.refusal.Refusal.TheVariants.{NotAdvised, NotAsked}
 -- of a price
 pub use Rattle.claim_model.specs.declared.refusal.Refusal.TheVariants.{NotPriced}
+-- of a rule of retries
+pub use Rattle.claim_model.specs.declared.refusal.Refusal.TheVariants.{BadRule}
 pub use Rattle.claim_model.specs.declared.refusal.Fault.{Fault}
 use Rattle.claim_model.specs.declared.refusal.Fault.TheVariants as fault
 
@@ -85,6 +87,7 @@ refusal_name SerialsUsedUp = codes "SerialsUsedUp"
 refusal_name NotAdvised = codes "NotAdvised"
 refusal_name NotAsked = codes "NotAsked"
 refusal_name (NotPriced why) = price_name why
+refusal_name BadRule = codes "BadRule"
 
 -- a refusal, or want of memory where there is none
 abbrev pub name_by : Option Refusal → List ℕ

@@ -1,10 +1,11 @@
 -- The settings of a world, which of them a world takes, and the world that it opens with.
-use Rattle.std.specs.Prelude.{ℕ, zero, suc, ◌+◌, ◌<◌, ◌≤◌, ◌≡◌, Bool, true, false, cond, not, ◌&&◌, ◌||◌, nat_lt, List, [], ◌∷◌, length, Option, Some, None, bytes_eq}
+use Rattle.std.specs.Prelude.{ℕ, ◌+◌, ◌<◌, ◌≤◌, ◌≡◌, Bool, true, false, cond, not, ◌&&◌, ◌||◌, nat_lt, List, [], ◌∷◌, length, Option, Some, None, bytes_eq}
 use Rattle.std.specs.List.{list_any, list_all, AllByRecursion}
 use Rattle.claim_model.specs.Words.{Plan, RouteKey}
 use Rattle.claim_model.specs.Context.{Context}
 use Rattle.claim_model.specs.Rows.{BookSettings}
-use Rattle.claim_model.specs.Journal.{PharmacySettings, Journal, JournalAtRest}
+pub use Rattle.claim_model.specs.Journal.{is_empty, is_switch}
+use Rattle.claim_model.specs.Journal.{PharmacySettings, Journal, JournalAtRest, opening_rule, have_switches}
 use Rattle.claim_model.specs.Rows.{Book}
 use Rattle.claim_model.specs.Table.{Table}
 use Rattle.claim_model.specs.Node.{Power, Up}
@@ -25,16 +26,8 @@ pub record WorldSettings : Type 0 where
 pub data SettingsFault : Type 0 where
   TooMany NoNode SameProvider : SettingsFault
 
-abbrev pub is_empty : {A : Type 0} → List A → Bool
-is_empty [] = true
-is_empty (x ∷ xs) = false
-
-abbrev pub is_switch : ℕ → ℕ → Bool
-is_switch switches zero = false
-is_switch switches (suc k) = nat_lt k switches
-
 abbrev pub has_nodes : ℕ → PharmacySettings → Bool
-has_nodes switches s = not (is_empty s.nodes) && list_all (is_switch switches) s.nodes
+has_nodes switches s = have_switches switches s.nodes
 
 abbrev pub same_provider : PharmacySettings → PharmacySettings → Bool
 same_provider a b = bytes_eq a.qualifier b.qualifier && bytes_eq a.provider b.provider
@@ -68,12 +61,14 @@ pub record Accepts (ctx : Context) (s : WorldSettings) : Type 0 where
   pub no_fault : settings_fault s ≡ None
   pub pharmacies : AllByRecursion IsPharmacySettings s.pharmacies
   pub books : AllByRecursion (λ p. IsBookSettings p.book) s.payers
+  -- a pharmacy is told of the switches that are there
+  pub switches : ctx.switches ≡ length s.switches
   -- a route leads to a payer that is there
   pub routes : (number : ℕ) (key : RouteKey) (payer : ℕ) → ctx.route number key ≡ Some payer → (0 < payer) × (payer ≤ length s.payers)
 
 abbrev pub pharmacies_from : ℕ → List PharmacySettings → List (Power Journal JournalAtRest)
 pharmacies_from n [] = []
-pharmacies_from n (s ∷ more) = Up (record { number = n; settings = s; entries = [] }) ∷ pharmacies_from (n + 1) more
+pharmacies_from n (s ∷ more) = Up (record { number = n; settings = s; rule = opening_rule s; entries = [] }) ∷ pharmacies_from (n + 1) more
 
 abbrev pub switches_of : List ℕ → List (Power Table ℕ)
 switches_of [] = []

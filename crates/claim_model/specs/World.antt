@@ -1,13 +1,12 @@
 -- The world of all nodes: every journal, table and book, and every packet that was ever sent.
 use Rattle.std.specs.Prelude.{ℕ, List, [], ◌∷◌, ◌++◌, map, Option, Some, None}
-use Rattle.claim_model.specs.Words.{Change}
 use Rattle.claim_model.specs.Context.{Context}
 use Rattle.claim_model.specs.Refusal.{NoSuchNode, NoSuchPacket}
 use Rattle.claim_model.specs.Rows.{Book}
 use Rattle.claim_model.specs.Numbered.{numbered, renumbered}
 use Rattle.claim_model.specs.Journal.{Journal, JournalAtRest}
 use Rattle.claim_model.specs.Table.{Table}
-use Rattle.claim_model.specs.Node.{Node, Pharmacy, Switch, Payer, Sent, Call, Submit, Tick, Take, Stop, Start, Reprice, Adjudicate, Power, Outcome, Done, Refused, pharmacy_step, switch_step, payer_step}
+use Rattle.claim_model.specs.Node.{Node, Pharmacy, Switch, Payer, Sent, Call, Submit, Tick, Take, Stop, Start, Revise, Revision, Adjudicate, Power, Outcome, Done, Refused, pharmacy_step, switch_step, payer_step}
 
 -- a packet, with its sender and its addressee
 pub record Packet : Type 0 where
@@ -30,7 +29,7 @@ pub data Event : Type 0 where
   Delivery : (packet : ℕ) → Event
   Stopping : Node → Event
   Starting : Node → Event
-  PlanChange : (payer : ℕ) → Change → Event
+  Revising : Node → Revision → Event
   Adjudication : (packet : ℕ) → (advice : List ℕ) → Event
 
 abbrev pub packet_from : Node → Sent → Packet
@@ -87,7 +86,7 @@ step ctx w (Ticking n) = on_node ctx w (Pharmacy n) Tick
 step ctx w (Delivery k) = delivered ctx w (numbered w.packets k)
 step ctx w (Stopping node) = on_node ctx w node Stop
 step ctx w (Starting node) = on_node ctx w node Start
-step ctx w (PlanChange n change) = on_node ctx w (Payer n) (Reprice change)
+step ctx w (Revising node revision) = on_node ctx w node (Revise revision)
 step ctx w (Adjudication k advice) = adjudicated ctx w advice (numbered w.packets k)
 
 abbrev pub world_after : World → Outcome World → World

@@ -83,6 +83,9 @@ pub enum Refusal {
     /// The price is none that the payer's plan takes.
     #[error("{0}")]
     NotPriced(PlanFault),
+    /// The rule of retries has no switch, more than 4,096 or one that is not there, or a number that is not 1 to 1,000.
+    #[error("the rule of retries is none")]
+    BadRule,
 }
 
 /// Why a call or an event did nothing: it is refused, or memory was. `OutOfMemory` may stand in place of any answer.
@@ -125,6 +128,7 @@ impl Refusal {
             Refusal::NotAdvised => "NotAdvised",
             Refusal::NotAsked => "NotAsked",
             Refusal::NotPriced(fault) => name_of_price(fault),
+            Refusal::BadRule => "BadRule",
         }
     }
 }

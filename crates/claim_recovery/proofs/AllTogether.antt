@@ -1,14 +1,15 @@
 -- One recovery after another, until no entry is open.
 use Rattle.std.proofs.Common.{◌≡◌, ℕ, zero, suc, ◌+◌, ◌≤◌, List, [], ◌∷◌, ◌++◌, length, Option, Some, None, slice_get, refl, sym, ap, ◌∙◌, subst, ◌⊎◌, inl, inr, arith, length-append}
-use Rattle.std.specs.Prelude.{sum_by, nat_eq, option_and_then}
+use Rattle.std.specs.Prelude.{sum_by, nat_eq, option_and_then, option_map}
 use Rattle.std.specs.List.{AllByRecursion}
+use Rattle.std.proofs.lemmas.Bool.{cases_eq}
 use Rattle.std.proofs.lemmas.List.Sums.{sum_by-cons}
 use Rattle.claim_model.specs.Words.{TxnId}
 use Rattle.claim_model.specs.Context.{Context}
 use Rattle.claim_model.specs.Numbered.{numbered}
-use Rattle.claim_model.specs.Journal.{PharmacySettings, Journal, JournalAtRest, Kept}
+use Rattle.claim_model.specs.Journal.{RetryRule, Journal, JournalAtRest, Kept}
 use Rattle.claim_model.specs.Node.{Pharmacy, Power}
-use Rattle.claim_model.specs.World.{World, Event, Submission, Ticking, Delivery, Stopping, Starting, PlanChange, Adjudication, run}
+use Rattle.claim_model.specs.World.{World, Event, Submission, Ticking, Delivery, Stopping, Starting, Revising, Adjudication, run}
 use Rattle.claim_model.specs.Settings.{WorldSettings}
 use Rattle.claim_model.specs.Held.{journal_in, journal_at, entry_of, held}
 use Rattle.claim_model.specs.Promises.{Reached}
@@ -19,7 +20,7 @@ use Rattle.claim_model.proofs.Held.{journal_sound}
 use Rattle.claim_model.proofs.Stays.{stays_decided}
 use Rattle.claim_model.proofs.Runs.{reached_sound}
 use Rattle.claim_recovery.specs.Help.{Timely, AllDone, Helps, HelpsOne, is_tick, is_delivery, is_start, how_many}
-use Rattle.claim_recovery.specs.Recovered.{IsOpen, Recovered, RecoveredAlone}
+use Rattle.claim_recovery.specs.Recovered.{rule_at, IsOpen, Recovered, LeavesOthers, RecoveredAlone}
 use Rattle.claim_recovery.specs.Everyone.{open_at, open_from, open_in, open_ids, RoomForAll, again_in, cost, IsSettled, AllRecovered}
 use Rattle.claim_recovery.proofs.Paths.{run_append, done_append, run_grows, reached_on}
 use Rattle.claim_recovery.proofs.Recoveries.{held_own, recovered_alone}
@@ -36,7 +37,7 @@ length_is old n (Ticking m ∷ events) all = let r = length_is old n events all.
 length_is old n (Delivery k ∷ events) all = let r = length_is old n events all.1 in omega (arith, r)
 length_is old n (Stopping node ∷ events) all = absurd all.0
 length_is old n (Starting node ∷ events) all = let r = length_is old n events all.1 in omega (arith, r)
-length_is old n (PlanChange m change ∷ events) all = absurd all.0
+length_is old n (Revising m change ∷ events) all = absurd all.0
 length_is old n (Adjudication k advice ∷ events) all = let r = length_is old n events all.1 in omega (arith, r)
 
 -- help of one pharmacy, later, is help
@@ -46,7 +47,7 @@ helps_by old new n le (Ticking m) h = tt
 helps_by old new n le (Delivery k) h = omega (arith, le, h)
 helps_by old new n le (Stopping node) h = h
 helps_by old new n le (Starting node) h = tt
-helps_by old new n le (PlanChange m change) h = h
+helps_by old new n le (Revising m change) h = h
 helps_by old new n le (Adjudication k advice) h = omega (arith, le, h)
 
 -- ---- entries that are not open
@@ -85,27 +86,40 @@ is_open_by w id (Some k) is = by_answer k.answer refl
 -- ---- one after another
 
 -- events after which none of these ids is open, and no entry is open that was not
-record Settled (ctx : Context) (given : WorldSettings) (w : World) (old : ℕ) (ids : List TxnId) : Type 0 where
+record Settled (ctx : Context) (start w : World) (old : ℕ) (ids : List TxnId) : Type 0 where
   events : List Event
   done : AllDone ctx w events
   help : AllByRecursion (Helps old) events
-  few : length events ≤ sum_by (cost given) ids
+  few : length events ≤ sum_by (cost start) ids
   these : AllByRecursion (NotOpen (run ctx w events)) ids
   others : (id : TxnId) → NotOpen w id → NotOpen (run ctx w events) id
 
 -- an id that needs nothing
-settled_also : (ctx : Context) (given : WorldSettings) (w : World) (old : ℕ) (id : TxnId) (ids : List TxnId) → NotOpen w id → Settled ctx given w old ids → Settled ctx given w old (id ∷ ids)
-settled_also ctx given w old id ids not_open s =
+settled_also : (ctx : Context) (start w : World) (old : ℕ) (id : TxnId) (ids : List TxnId) → NotOpen w id → Settled ctx start w old ids → Settled ctx start w old (id ∷ ids)
+settled_also ctx start w old id ids not_open s =
     let few = s.few in
-    record { events = s.events; done = s.done; help = s.help; few = omega (arith, few, sum_by-cons (cost given) id ids); these = (s.others id not_open, s.these); others = s.others }
+    record { events = s.events; done = s.done; help = s.help; few = omega (arith, few, sum_by-cons (cost start) id ids); these = (s.others id not_open, s.these); others = s.others }
 
-again_given : (ctx : Context) (given : WorldSettings) (w : World) (id : TxnId) (journal : JournalAtRest) → Reached ctx given w → journal_at w id.pharmacy ≡ Some journal → cost given id ≡ journal.settings.again + 7
-again_given ctx given w id journal r there = ap (λ (o : Option PharmacySettings). again_in o + 7) (journal_sound ctx given w id.pharmacy journal (reached_sound ctx given w r) there).settings
+-- every pharmacy goes by the rule that it had at the start
+abbrev SameRules : World → World → Type 0
+SameRules start w = (n : ℕ) → rule_at w n ≡ rule_at start n
+
+again_then : (start w : World) (id : TxnId) (journal : JournalAtRest) → SameRules start w → journal_at w id.pharmacy ≡ Some journal → cost start id ≡ journal.rule.again + 7
+again_then start w id journal same there =
+    ap (λ (o : Option RetryRule). again_in o + 7) (sym (same id.pharmacy) ∙ ap (option_map (λ (j : JournalAtRest). j.rule)) there)
+
+-- after a recovery too
+rules_on : (ctx : Context) (start w v : World) (id : TxnId) (request : List ℕ) → LeavesOthers ctx w v id request → SameRules start w → SameRules start v
+rules_on ctx start w v id request others same n =
+    elim (cases_eq n id.pharmacy) [
+      | inl e ↦ subst (λ (m : ℕ). rule_at v m ≡ rule_at w m) (sym e) others.rule ∙ same n
+      | inr d ↦ ap (λ (o : Option (Power Journal JournalAtRest)). option_map (λ (j : JournalAtRest). j.rule) (option_map journal_in o)) (others.pharmacies n d) ∙ same n
+    ]
 
 -- one recovery, and then the others
-settled_then : (ctx : Context) (given : WorldSettings) (w : World) (old : ℕ) (id : TxnId) (request : List ℕ) (ids : List TxnId) (journal : JournalAtRest) → Reached ctx given w → old ≤ length w.packets → journal_at w id.pharmacy ≡ Some journal
-    → (a : RecoveredAlone ctx w journal id request) → Settled ctx given (run ctx w a.recovered.events) old ids → Settled ctx given w old (id ∷ ids)
-settled_then ctx given w old id request ids journal r before there a s =
+settled_then : (ctx : Context) (start w : World) (old : ℕ) (id : TxnId) (request : List ℕ) (ids : List TxnId) (journal : JournalAtRest) → SameRules start w → old ≤ length w.packets → journal_at w id.pharmacy ≡ Some journal
+    → (a : RecoveredAlone ctx w journal id request) → Settled ctx start (run ctx w a.recovered.events) old ids → Settled ctx start w old (id ∷ ids)
+settled_then ctx start w old id request ids journal rules before there a s =
     let x : Recovered ctx w journal id = a.recovered in
     let v : World = run ctx w x.events in
     let now : NotOpen v id = held_not_open ctx v id x.answer x.settled in
@@ -114,13 +128,13 @@ settled_then ctx given w old id request ids journal r before there a s =
     let t = x.ticks_few in
     let d = x.deliveries_few in
     let b = x.starts_few in
-    let c = again_given ctx given w id journal r there in
+    let c = again_then start w id journal rules there in
     let few = s.few in
     record {
       events = x.events ++ s.events;
       done = done_append ctx w x.events s.events x.done s.done;
       help = all_append (Helps old) x.events s.events (all_weaker (HelpsOne (length w.packets) id.pharmacy) (Helps old) (helps_by old (length w.packets) id.pharmacy before) x.events x.help) s.help;
-      few = omega (arith, count, t, d, b, c, few, length-append x.events s.events, sum_by-cons (cost given) id ids);
+      few = omega (arith, count, t, d, b, c, few, length-append x.events s.events, sum_by-cons (cost start) id ids);
       these = subst (λ (u : World). AllByRecursion (NotOpen u) (id ∷ ids)) (sym whole) (s.others id now, s.these);
       others = λ other not_open. subst (λ (u : World). NotOpen u other) (sym whole) (s.others other (elim (entry_same ctx w v id request a.others other) [
         | inl same ↦ λ q o. not_open q (sym same ∙ o)
@@ -128,22 +142,22 @@ settled_then ctx given w old id request ids journal r before there a s =
       ]));
     }
 
-settled_open : (ctx : Context) (given : WorldSettings) (w : World) (old : ℕ) (id : TxnId) (request : List ℕ) (ids : List TxnId) → Reached ctx given w → Timely given → old ≤ length w.packets → IsOpen w id request → RoomForAll ctx w (id ∷ ids)
-    → ((v : World) → Reached ctx given v → old ≤ length v.packets → RoomForAll ctx v ids → Settled ctx given v old ids) → Settled ctx given w old (id ∷ ids)
-settled_open ctx given w old id request ids r timely before o room rest =
+settled_open : (ctx : Context) (given : WorldSettings) (start w : World) (old : ℕ) (id : TxnId) (request : List ℕ) (ids : List TxnId) → Reached ctx given w → Timely given → SameRules start w → old ≤ length w.packets → IsOpen w id request → RoomForAll ctx w (id ∷ ids)
+    → ((v : World) → Reached ctx given v → SameRules start v → old ≤ length v.packets → RoomForAll ctx v ids → Settled ctx start v old ids) → Settled ctx start w old (id ∷ ids)
+settled_open ctx given start w old id request ids r timely rules before o room rest =
     let j = then_some (λ (q : JournalAtRest). numbered q.entries id.number) (journal_at w id.pharmacy) (record { request = request; answer = None }) o in
     let a : RecoveredAlone ctx w j.0 id request = recovered_alone ctx given w id request j.0 r timely j.1 o (room_first ctx given w id request ids r o room) in
     let v : World = run ctx w a.recovered.events in
     let rv : Reached ctx given v = reached_on ctx given w v a.recovered.events r refl in
     let grown = run_grows ctx w a.recovered.events in
-    settled_then ctx given w old id request ids j.0 r before j.1 a (rest v rv (omega (arith, before, grown)) (room_after ctx w v id request ids r.laws o a.others room))
+    settled_then ctx start w old id request ids j.0 rules before j.1 a (rest v rv (rules_on ctx start w v id request a.others rules) (omega (arith, before, grown)) (room_after ctx w v id request ids r.laws o a.others room))
 
-settle_all : (ctx : Context) (given : WorldSettings) (w : World) (old : ℕ) (ids : List TxnId) → Reached ctx given w → Timely given → old ≤ length w.packets → RoomForAll ctx w ids → Settled ctx given w old ids
-settle_all ctx given w old [] r timely before room = record { events = []; done = tt; help = tt; few = omega arith; these = tt; others = λ id not_open. not_open }
-settle_all ctx given w old (id ∷ ids) r timely before room =
+settle_all : (ctx : Context) (given : WorldSettings) (start w : World) (old : ℕ) (ids : List TxnId) → Reached ctx given w → Timely given → SameRules start w → old ≤ length w.packets → RoomForAll ctx w ids → Settled ctx start w old ids
+settle_all ctx given start w old [] r timely rules before room = record { events = []; done = tt; help = tt; few = omega arith; these = tt; others = λ id not_open. not_open }
+settle_all ctx given start w old (id ∷ ids) r timely rules before room =
     elim (is_open_by w id (entry_of w id) refl) [
-      | inl o ↦ settled_open ctx given w old id o.0 ids r timely before o.1 room (λ v rv later left. settle_all ctx given v old ids rv timely later left)
-      | inr not_open ↦ settled_also ctx given w old id ids not_open (settle_all ctx given w old ids r timely before (room_rest ctx w id ids room))
+      | inl o ↦ settled_open ctx given start w old id o.0 ids r timely rules before o.1 room (λ v rv same later left. settle_all ctx given start v old ids rv timely same later left)
+      | inr not_open ↦ settled_also ctx start w old id ids not_open (settle_all ctx given start w old ids r timely rules before (room_rest ctx w id ids room))
     ]
 
 -- ---- every open entry is in the list
@@ -193,8 +207,8 @@ listed P w id request all o =
     pharmacy_listed P id.pharmacy id.number request w.pharmacies s.0 all s.1 (subst (λ (q : JournalAtRest). numbered q.entries id.number ≡ Some (record { request = request; answer = None })) (sym s.2) j.2)
 
 -- so after all of them none is open
-none_open : (ctx : Context) (given : WorldSettings) (w : World) (s : Settled ctx given w (length w.packets) (open_ids w)) (id : TxnId) → NotOpen (run ctx w s.events) id
-none_open ctx given w s id =
+none_open : (ctx : Context) (w : World) (s : Settled ctx w w (length w.packets) (open_ids w)) (id : TxnId) → NotOpen (run ctx w s.events) id
+none_open ctx w s id =
     elim (is_open_by w id (entry_of w id) refl) [
       | inl o ↦ listed (NotOpen (run ctx w s.events)) w id o.0 s.these o.1
       | inr not_open ↦ s.others id not_open
@@ -221,14 +235,14 @@ settled_after ctx w events id request o not_open =
     let is : entry_of v id ≡ Some e.entry = ap (option_and_then (λ (q : JournalAtRest). numbered q.entries id.number)) s.there ∙ e.stands in
     settled_by ctx v id e.entry e.entry.answer not_open is refl
 
-pub all_recovered : (ctx : Context) (given : WorldSettings) (w : World) → Reached ctx given w → Timely given → RoomForAll ctx w (open_ids w) → AllRecovered ctx given w
+pub all_recovered : (ctx : Context) (given : WorldSettings) (w : World) → Reached ctx given w → Timely given → RoomForAll ctx w (open_ids w) → AllRecovered ctx w
 all_recovered ctx given w r timely room =
-    let s = settle_all ctx given w (length w.packets) (open_ids w) r timely (omega arith) room in
+    let s = settle_all ctx given w w (length w.packets) (open_ids w) r timely (λ n. refl) (omega arith) room in
     record {
       events = s.events;
       done = s.done;
       help = s.help;
       few = s.few;
-      settled = λ id request o. settled_after ctx w s.events id request o (none_open ctx given w s id);
-      none_open = none_open ctx given w s;
+      settled = λ id request o. settled_after ctx w s.events id request o (none_open ctx w s id);
+      none_open = none_open ctx w s;
     }

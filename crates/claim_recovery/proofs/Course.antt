@@ -1,11 +1,13 @@
 -- A whole recovery, put together from its stages.
-use Rattle.std.proofs.Common.{◌≡◌, ℕ, ◌+◌, ◌*◌, ◌/◌, ◌<◌, ◌≤◌, List, [], ◌∷◌, length, Option, Some, None, refl, sym, ap, ◌∙◌, subst, arith}
+use Rattle.std.proofs.Common.{◌≡◌, ℕ, Bool, true, ◌&&◌, inl, inr, ltb-true, ◌+◌, ◌*◌, ◌/◌, ◌<◌, ◌≤◌, List, [], ◌∷◌, length, Option, Some, None, refl, sym, ap, ◌∙◌, subst, arith}
 use Rattle.std.specs.Prelude.{option_map, option_and_then}
 use Rattle.claim_model.specs.Words.{TxnId}
+use Rattle.std.specs.Prelude.{nat_lt, nat_le}
+use Rattle.std.proofs.lemmas.Bool.{and_parts}
 use Rattle.claim_model.specs.Context.{Context}
 use Rattle.claim_model.specs.Readable.{payer_for, request_envelope, answer_envelope}
 use Rattle.claim_model.specs.Numbered.{numbered}
-use Rattle.claim_model.specs.Journal.{Journal, JournalAtRest, Kept, Entry, circle, stopped}
+use Rattle.claim_model.specs.Journal.{PharmacySettings, RetryRule, opening_rule, Journal, JournalAtRest, Kept, Entry, circle, stopped, is_rounds, most_rounds, have_switches, most_nodes}
 use Rattle.claim_model.specs.Table.{Slot, Table, Routed, Forward, Back, filled, Requested, requested, Responded}
 use Rattle.claim_model.specs.Node.{Pharmacy, Switch, Payer, Power, Up, Sent, to_payer_or_back}
 use Rattle.claim_model.specs.World.{World, Event, Delivery, Starting, Adjudication, packet_from}
@@ -16,7 +18,7 @@ use Rattle.claim_model.proofs.Lists.{numbered_put, all_at}
 use Rattle.claim_model.proofs.Options.{same_some}
 use Rattle.claim_model.proofs.Sound.{with_switch, SoundSwitch}
 use Rattle.claim_model.proofs.Decided.{origin}
-use Rattle.claim_model.proofs.Phases.{PhaseFits}
+use Rattle.claim_model.proofs.Phases.{PhaseFits, HasRule}
 use Rattle.claim_model.proofs.Posts.{reached_posts}
 use Rattle.claim_model.proofs.Runs.{reached_sound}
 use Rattle.claim_recovery.specs.Help.{IsTimely, Timely}
@@ -30,9 +32,9 @@ use Rattle.claim_recovery.proofs.AtSwitch.{IsKnown, reply_fits, later_by, up_on,
 use Rattle.claim_recovery.proofs.AtPayer.{PayerUp, payer_up, Replied, payer_replies}
 use Rattle.claim_recovery.proofs.Home.{IsAnswered, Closed, Heard, home}
 
-pub stopped_settings : (j : Journal) → (stopped j).settings ≡ j.settings
+pub stopped_rule : (j : Journal) → (stopped j).rule ≡ j.rule
 unfolding stopped
-stopped_settings j = refl
+stopped_rule j = refl
 
 -- which events the stages after the tick need
 pub record Allows (may : Event → Type 0) (old : ℕ) : Type 0 where
@@ -266,16 +268,28 @@ pub answerable_on : (ctx : Context) (w v : World) (id : TxnId) (request : List �
 answerable_on ctx w v id request same answerable header payer reads route =
     let a = answerable header payer reads route in record { book = a.book; there = same.books payer ∙ a.there; handed = a.handed; answer = a.answer; answers = a.answers }
 
--- ---- what settings say
+-- ---- what the rule says
 
-pub timely_at : (ctx : Context) (given : WorldSettings) (w : World) (id : TxnId) (request : List ℕ) → Reached ctx given w → Timely given → (x : IsWaiting w id request) → IsTimely x.journal.settings
+-- a number of 1 to the most rounds is one at least
+some_rounds : (n : ℕ) → is_rounds n ≡ true → 0 < n
+some_rounds n e = ltb-true 0 n (and_parts (nat_lt 0 n) (nat_le n most_rounds) e).0
+
+timely_by : (ctx : Context) (given : WorldSettings) (n : ℕ) (j : JournalAtRest) → Timely given → numbered given.pharmacies n ≡ Some j.settings → HasRule ctx j → IsTimely j.rule
+timely_by ctx given n j timely at (inl as_opened) =
+    subst IsTimely (sym as_opened) (all_at (λ (s : PharmacySettings). IsTimely (opening_rule s)) given.pharmacies n j.settings timely at)
+timely_by ctx given n j timely at (inr taken) =
+    let a = and_parts (is_rounds j.rule.again) (is_rounds j.rule.tries && (have_switches ctx.switches j.rule.nodes && nat_le (length j.rule.nodes) most_nodes)) taken in
+    let b = and_parts (is_rounds j.rule.tries) (have_switches ctx.switches j.rule.nodes && nat_le (length j.rule.nodes) most_nodes) a.1 in
+    record { again = some_rounds j.rule.again a.0; tries = some_rounds j.rule.tries b.0 }
+
+pub timely_at : (ctx : Context) (given : WorldSettings) (w : World) (id : TxnId) (request : List ℕ) → Reached ctx given w → Timely given → (x : IsWaiting w id request) → IsTimely x.journal.rule
 timely_at ctx given w id request r timely x =
     let sj = (reached_sound ctx given w r).pharmacies id.pharmacy (Up x.journal) x.up in
-    subst IsTimely (stopped_settings x.journal) (all_at IsTimely given.pharmacies id.pharmacy (stopped x.journal).settings timely sj.settings)
+    subst IsTimely (stopped_rule x.journal) (timely_by ctx given id.pharmacy (stopped x.journal) timely sj.settings ((reached_posts ctx given w r).rules id.pharmacy (Up x.journal) x.up))
 
-pub below_circle : (ctx : Context) (given : WorldSettings) (w : World) (id : TxnId) (request : List ℕ) → Reached ctx given w → Timely given → (x : IsWaiting w id request) → x.phase < circle x.journal.settings
+pub below_circle : (ctx : Context) (given : WorldSettings) (w : World) (id : TxnId) (request : List ℕ) → Reached ctx given w → Timely given → (x : IsWaiting w id request) → x.phase < circle x.journal.rule
 below_circle ctx given w id request r timely x =
     let t = timely_at ctx given w id request r timely x in
-    let fits : x.phase / (x.journal.settings.again * x.journal.settings.tries) < length x.journal.settings.nodes =
-    all_at (λ (e : Entry). PhaseFits x.journal.settings e.state) x.journal.entries id.number _ ((reached_posts ctx given w r).phases id.pharmacy (Up x.journal) x.up) x.stands in
-    phase_below x.journal.settings x.phase t.again t.tries fits
+    let fits : x.phase / (x.journal.rule.again * x.journal.rule.tries) < length x.journal.rule.nodes =
+    all_at (λ (e : Entry). PhaseFits x.journal.rule e.state) x.journal.entries id.number _ ((reached_posts ctx given w r).phases id.pharmacy (Up x.journal) x.up) x.stands in
+    phase_below x.journal.rule x.phase t.again t.tries fits

@@ -124,7 +124,7 @@ answer_at_pharmacy ctx w n k from bytes e j after up stands reads goes =
 
 -- a journal with an answer at an open entry
 abbrev pub settled_at : Journal → ℕ → List ℕ → List ℕ → Journal
-settled_at j number request answer = record { number = j.number; settings = j.settings; entries = renumbered j.entries number (record { request = request; state = Has answer }) }
+settled_at j number request answer = record { number = j.number; settings = j.settings; rule = j.rule; entries = renumbered j.entries number (record { request = request; state = Has answer }) }
 
 pub hears : (ctx : Context) (j : Journal) (id : TxnId) (request answer : List ℕ) (phase : ℕ) → j.number ≡ id.pharmacy → numbered j.entries id.number ≡ Some (record { request = request; state = Waits phase }) → settles ctx request answer ≡ true
     → heard ctx j (answer_envelope id answer) ≡ Ok (settled_at j id.number request answer)

@@ -5,7 +5,7 @@ use Rattle.claim_model.specs.Words.{TxnId}
 use Rattle.claim_model.specs.Context.{Context}
 use Rattle.claim_model.specs.Readable.{settles, answer_envelope}
 use Rattle.claim_model.specs.Numbered.{numbered}
-use Rattle.claim_model.specs.Journal.{Journal, JournalAtRest, Waits, Has, kept_entry, stopped}
+use Rattle.claim_model.specs.Journal.{RetryRule, Journal, JournalAtRest, Waits, Has, kept_entry, stopped}
 use Rattle.claim_model.specs.Node.{Node, Pharmacy, Power, Up}
 use Rattle.claim_model.specs.World.{World, Event, Delivery}
 use Rattle.claim_model.specs.Settings.{WorldSettings}
@@ -17,6 +17,7 @@ use Rattle.claim_model.proofs.Tests.{readable_parts}
 use Rattle.claim_model.proofs.Sound.{with_pharmacy}
 use Rattle.claim_model.proofs.Decided.{origin}
 use Rattle.claim_model.proofs.Runs.{reached_sound}
+use Rattle.claim_recovery.specs.Recovered.{rule_at}
 use Rattle.claim_recovery.proofs.Paths.{Path, path_delivery}
 use Rattle.claim_recovery.proofs.Forward.{settled_at, hears, settles_it, answer_at_pharmacy}
 use Rattle.claim_recovery.proofs.Waits.{IsWaiting}
@@ -34,6 +35,7 @@ pub record IsAnswered (ctx : Context) (w : World) (old : ℕ) (id : TxnId) (answ
 pub record Closed (w v : World) (id : TxnId) (request answer : List ℕ) : Type 0 where
   pub pharmacies : (n : ℕ) → (n ≡ id.pharmacy → ⊥) → numbered v.pharmacies n ≡ numbered w.pharmacies n
   pub entries : (number : ℕ) → (number ≡ id.number → ⊥) → entry_of v (record { pharmacy = id.pharmacy; number = number }) ≡ entry_of w (record { pharmacy = id.pharmacy; number = number })
+  pub rule : rule_at v id.pharmacy ≡ rule_at w id.pharmacy
   pub books : (n : ℕ) → book_at v n ≡ book_at w n
   pub settled : entry_of v id ≡ Some (record { request = request; answer = Some answer })
 
@@ -43,6 +45,13 @@ stopped_at j number = numbered_map kept_entry j.entries number
 
 entry_there : (w : World) (n : ℕ) (j : Journal) (number : ℕ) → numbered w.pharmacies n ≡ Some (Up j) → entry_of w (record { pharmacy = n; number = number }) ≡ option_map kept_entry (numbered j.entries number)
 entry_there w n j number is = ap (λ (o : Option (Power Journal JournalAtRest)). option_and_then (λ (q : JournalAtRest). numbered q.entries number) (option_map journal_in o)) is ∙ stopped_at j number
+
+stopped_rule : (j : Journal) → (stopped j).rule ≡ j.rule
+unfolding stopped
+stopped_rule j = refl
+
+rule_there : (w : World) (n : ℕ) (j : Journal) → numbered w.pharmacies n ≡ Some (Up j) → rule_at w n ≡ Some j.rule
+rule_there w n j is = ap (λ (o : Option (Power Journal JournalAtRest)). option_map (λ (q : JournalAtRest). q.rule) (option_map journal_in o)) is ∙ ap (λ (r : RetryRule). Some r) (stopped_rule j)
 
 closed_by : (w : World) (id : TxnId) (j : Journal) (request answer : List ℕ) (phase : ℕ) → numbered w.pharmacies id.pharmacy ≡ Some (Up j) → numbered j.entries id.number ≡ Some (record { request = request; state = Waits phase })
     → Closed w (with_pharmacy w id.pharmacy (Up (settled_at j id.number request answer)) []) id request answer
@@ -58,6 +67,7 @@ closed_by w id j request answer phase is stands =
           entry_there v n after m up
           ∙ (ap (option_map kept_entry) (numbered_put_other j.entries k m (record { request = request; state = Has answer }) (λ e. d (sym e)))
           ∙ sym (entry_there w n j m is));
+      rule = rule_there v n after up ∙ sym (rule_there w n j is);
       books = λ m. refl;
       settled = entry_there v n after k up ∙ ap (option_map kept_entry) (numbered_put j.entries k (record { request = request; state = Waits phase }) (record { request = request; state = Has answer }) stands);
     }

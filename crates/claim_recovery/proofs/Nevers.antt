@@ -12,8 +12,8 @@ use Rattle.claim_model.specs.Rows.{Row, Book}
 use Rattle.claim_model.specs.Book.{row_of, new_row, has_verdicts, unadvised, Answered, entered_row, answered_by, answered_readable, answered}
 use Rattle.claim_model.specs.Journal.{Journal, JournalAtRest}
 use Rattle.claim_model.specs.Table.{Table}
-use Rattle.claim_model.specs.Node.{Node, Pharmacy, Switch, Payer, Power, Up, AtRest, Sent, Call, Submit, Tick, Take, Stop, Start, Reprice, Adjudicate, Outcome, Done, Refused, after_answer, payer_takes, advice_in, after_reprice, pharmacy_step, switch_step, payer_step}
-use Rattle.claim_model.specs.World.{World, Packet, Event, Submission, Ticking, Delivery, Stopping, Starting, PlanChange, Adjudication, on_pharmacy, on_switch, on_payer, on_node, delivered, adjudicated, step, world_after, run}
+use Rattle.claim_model.specs.Node.{Node, Pharmacy, Switch, Payer, Power, Up, AtRest, Sent, Call, Submit, Tick, Take, Stop, Start, Revise, Revision, OfPlan, OfRule, Adjudicate, Outcome, Done, Refused, after_answer, payer_takes, advice_in, after_reprice, pharmacy_step, switch_step, payer_step}
+use Rattle.claim_model.specs.World.{World, Packet, Event, Submission, Ticking, Delivery, Stopping, Starting, Revising, Adjudication, on_pharmacy, on_switch, on_payer, on_node, delivered, adjudicated, step, world_after, run}
 use Rattle.claim_model.specs.Settings.{WorldSettings}
 use Rattle.claim_model.specs.Held.{book_in, book_at, row_at, row_answer, asked, decided_by, decided_for, decided, held}
 use Rattle.claim_model.specs.Promises.{Reached}
@@ -41,7 +41,7 @@ CallsFor Q payer (Ticking n) = ⊤
 CallsFor Q payer (Delivery k) = (from : Node) (bytes : List ℕ) → Q (Take from bytes)
 CallsFor Q payer (Stopping node) = Q Stop
 CallsFor Q payer (Starting node) = Q Start
-CallsFor Q payer (PlanChange n change) = n ≡ payer → Q (Reprice change)
+CallsFor Q payer (Revising node revision) = node ≡ Payer payer → Q (Revise revision)
 CallsFor Q payer (Adjudication k advice) = (from : Node) (bytes : List ℕ) → Q (Adjudicate from bytes advice)
 
 abbrev pub Keeps : Context → (Book → Type 0) → (Call → Type 0) → Type 0
@@ -82,6 +82,12 @@ at_adjudication : (ctx : Context) (P : Book → Type 0) (Q : Call → Type 0) (w
 at_adjudication ctx P Q w v payer advice sent None k q h e = absurd cc
 at_adjudication ctx P Q w v payer advice sent (Some p) k q h e = at_node ctx P Q w v payer p.to (Adjudicate p.from p.bytes advice) sent k (q p.from p.bytes) h e
 
+at_revision : (ctx : Context) (P : Book → Type 0) (Q : Call → Type 0) (w v : World) (payer : ℕ) (node : Node) (revision : Revision) (sent : List Sent) → Keeps ctx P Q → (node ≡ Payer payer → Q (Revise revision)) → Holds P payer w
+    → on_node ctx w node (Revise revision) ≡ Done v sent → Holds P payer v
+at_revision ctx P Q w v payer (Pharmacy m) revision sent k q h e = at_pharmacy ctx P w v payer m (Revise revision) sent (numbered w.pharmacies m) h e
+at_revision ctx P Q w v payer (Switch m) revision sent k q h e = at_switch ctx P w v payer m (Revise revision) sent (numbered w.switches m) h e
+at_revision ctx P Q w v payer (Payer m) revision sent k q h e = at_payer ctx P Q w v payer m (Revise revision) sent (numbered w.payers m) k (λ same. q (ap (λ (n : ℕ). Payer n) same)) h refl e
+
 at_event : (ctx : Context) (P : Book → Type 0) (Q : Call → Type 0) (w v : World) (payer : ℕ) (event : Event) (sent : List Sent) → Keeps ctx P Q → CallsFor Q payer event → Holds P payer w → step ctx w event ≡ Done v sent → Holds P payer v
 unfolding step
 at_event ctx P Q w v payer (Submission n text) sent k q h e = at_pharmacy ctx P w v payer n (Submit text) sent (numbered w.pharmacies n) h e
@@ -89,7 +95,7 @@ at_event ctx P Q w v payer (Ticking n) sent k q h e = at_pharmacy ctx P w v paye
 at_event ctx P Q w v payer (Delivery i) sent k q h e = at_delivery ctx P Q w v payer sent (numbered w.packets i) k q h e
 at_event ctx P Q w v payer (Stopping node) sent k q h e = at_node ctx P Q w v payer node Stop sent k q h e
 at_event ctx P Q w v payer (Starting node) sent k q h e = at_node ctx P Q w v payer node Start sent k q h e
-at_event ctx P Q w v payer (PlanChange n change) sent k q h e = at_payer ctx P Q w v payer n (Reprice change) sent (numbered w.payers n) k q h refl e
+at_event ctx P Q w v payer (Revising node revision) sent k q h e = at_revision ctx P Q w v payer node revision sent k q h e
 at_event ctx P Q w v payer (Adjudication i advice) sent k q h e = at_adjudication ctx P Q w v payer advice sent (numbered w.packets i) k q h e
 
 at_outcome : (ctx : Context) (P : Book → Type 0) (Q : Call → Type 0) (w : World) (payer : ℕ) (event : Event) (o : Outcome World) → Keeps ctx P Q → CallsFor Q payer event → Holds P payer w → step ctx w event ≡ o → Holds P payer (world_after w o)
@@ -173,7 +179,8 @@ full_keeps ctx id (Up b) next (Take from bytes) sent q f e = full_takes ctx id b
 full_keeps ctx id (Up b) next (Adjudicate from bytes advice) sent q f e =
     full_takes ctx id b (advice_in ctx advice) from (ctx.read_envelope bytes) next sent f (asked_first b.settings.asks _ next sent e).1
 full_keeps ctx id (Up b) next Stop sent q f e = subst (λ (x : Power Book Book). IsFull id (book_in x)) (done_same (AtRest b) next [] sent e).0 f
-full_keeps ctx id (Up b) next (Reprice change) sent q f e = full_reprice id b (ctx.reprice b.plan change) next sent f e
+full_keeps ctx id (Up b) next (Revise (OfPlan change)) sent q f e = full_reprice id b (ctx.reprice b.plan change) next sent f e
+full_keeps ctx id (Up b) next (Revise (OfRule rule)) sent q f e = absurd cc
 full_keeps ctx id (AtRest b) next Start sent q f e = subst (λ (x : Power Book Book). IsFull id (book_in x)) (done_same (Up b) next [] sent e).0 f
 full_keeps ctx id (Up b) next (Submit text) sent q f e = absurd cc
 full_keeps ctx id (Up b) next Tick sent q f e = absurd cc
@@ -182,7 +189,8 @@ full_keeps ctx id (AtRest b) next (Submit text) sent q f e = absurd cc
 full_keeps ctx id (AtRest b) next Tick sent q f e = absurd cc
 full_keeps ctx id (AtRest b) next (Take from bytes) sent q f e = absurd cc
 full_keeps ctx id (AtRest b) next Stop sent q f e = absurd cc
-full_keeps ctx id (AtRest b) next (Reprice change) sent q f e = absurd cc
+full_keeps ctx id (AtRest b) next (Revise (OfPlan change)) sent q f e = absurd cc
+full_keeps ctx id (AtRest b) next (Revise (OfRule rule)) sent q f e = absurd cc
 full_keeps ctx id (AtRest b) next (Adjudicate from bytes advice) sent q f e = absurd cc
 
 any_calls : (payer : ℕ) (event : Event) → CallsFor AnyCall payer event
@@ -192,7 +200,7 @@ any_calls payer (Ticking n) = tt
 any_calls payer (Delivery k) = λ from bytes. tt
 any_calls payer (Stopping node) = tt
 any_calls payer (Starting node) = tt
-any_calls payer (PlanChange n change) = λ same. tt
+any_calls payer (Revising n change) = λ same. tt
 any_calls payer (Adjudication k advice) = λ from bytes. tt
 
 all_calls : (payer : ℕ) (events : List Event) → AllByRecursion (CallsFor AnyCall payer) events

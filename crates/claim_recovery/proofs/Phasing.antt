@@ -5,7 +5,7 @@ use Rattle.std.proofs.Math.Nat.{mul_left_comm, mod-eq_of_lt, mod-add-mod, mod-mo
 use Rattle.std.proofs.lemmas.Option.{get_or_from_slice_get}
 use Rattle.claim_model.specs.Context.{Context}
 use Rattle.claim_model.specs.Numbered.{numbered}
-use Rattle.claim_model.specs.Journal.{PharmacySettings, Waits, Entry, Journal, Sending, circle, switch_at, sending, due_by, due_from, due}
+use Rattle.claim_model.specs.Journal.{RetryRule, Waits, Entry, Journal, Sending, circle, switch_at, sending, due_by, due_from, due}
 use Rattle.claim_model.proofs.Tests.{nat_self}
 
 -- ---- what a tick sends
@@ -22,14 +22,14 @@ pub record IsSent (ctx : Context) (j : Journal) (number phase : ℕ) (request : 
   pub place : ℕ
   pub stands : slice_get out place ≡ Some (sending ctx j number phase request)
 
-first_sent : (ctx : Context) (j : Journal) (number phase : ℕ) (request : List ℕ) (more : List Sending) → phase % j.settings.again ≡ 0 → IsSent ctx j number phase request (due_by ctx j number request (Waits phase) ++ more)
-first_sent ctx j number phase request more z = go ((phase % j.settings.again) == 0) (subst (λ (x : ℕ). (x == 0) ≡ true) (sym z) (nat_self 0))
+first_sent : (ctx : Context) (j : Journal) (number phase : ℕ) (request : List ℕ) (more : List Sending) → phase % j.rule.again ≡ 0 → IsSent ctx j number phase request (due_by ctx j number request (Waits phase) ++ more)
+first_sent ctx j number phase request more z = go ((phase % j.rule.again) == 0) (subst (λ (x : ℕ). (x == 0) ≡ true) (sym z) (nat_self 0))
   where
     go : (b : Bool) → b ≡ true → IsSent ctx j number phase request (cond b (sending ctx j number phase request ∷ []) [] ++ more)
     go true e = record { place = 0; stands = refl }
     go false e = absurd (Rattle.std.proofs.lemmas.Bool.false≢true e)
 
-due_sent : (ctx : Context) (j : Journal) (number k phase : ℕ) (request : List ℕ) (es : List Entry) → slice_get es k ≡ Some (record { request = request; state = Waits phase }) → phase % j.settings.again ≡ 0
+due_sent : (ctx : Context) (j : Journal) (number k phase : ℕ) (request : List ℕ) (es : List Entry) → slice_get es k ≡ Some (record { request = request; state = Waits phase }) → phase % j.rule.again ≡ 0
     → IsSent ctx j (number + k) phase request (due_from ctx j number es)
 due_sent ctx j number k phase request [] h z = absurd cc
 due_sent ctx j number zero phase request (e ∷ es) h z =
@@ -46,7 +46,7 @@ due_sent ctx j number (suc k) phase request (e ∷ es) h z =
       stands = get_beyond (due_by ctx j number e.request e.state) (due_from ctx j (number + 1) es) r.place _ r.stands ∙ ap (λ (m : ℕ). Some (sending ctx j m phase request)) n;
     }
 
-pub due_has : (ctx : Context) (j : Journal) (number phase : ℕ) (request : List ℕ) → numbered j.entries number ≡ Some (record { request = request; state = Waits phase }) → phase % j.settings.again ≡ 0 → IsSent ctx j number phase request (due ctx j)
+pub due_has : (ctx : Context) (j : Journal) (number phase : ℕ) (request : List ℕ) → numbered j.entries number ≡ Some (record { request = request; state = Waits phase }) → phase % j.rule.again ≡ 0 → IsSent ctx j number phase request (due ctx j)
 unfolding due
 due_has ctx j zero phase request h z = absurd cc
 due_has ctx j (suc k) phase request h z =
@@ -56,7 +56,7 @@ due_has ctx j (suc k) phase request h z =
 -- ---- the circle
 
 -- a phase that is at a place of the list is below the circle
-pub phase_below : (s : PharmacySettings) (phase : ℕ) → 0 < s.again → 0 < s.tries → phase / (s.again * s.tries) < length s.nodes → phase < circle s
+pub phase_below : (s : RetryRule) (phase : ℕ) → 0 < s.again → 0 < s.tries → phase / (s.again * s.tries) < length s.nodes → phase < circle s
 phase_below s phase again tries fits =
     subst (λ (x : ℕ). phase < x) (mul_comm (length s.nodes) (s.again * s.tries)) ((div-lt_iff_lt-mul (mul-pos again tries)).0 fits)
 
@@ -67,12 +67,12 @@ pub phase_here : (phase c : ℕ) → phase < c → (phase + 0) % c ≡ phase
 phase_here phase c below = let e : phase + 0 ≡ phase = omega arith in ap (λ (x : ℕ). x % c) e ∙ mod-eq_of_lt below
 
 -- ticks until the next multiple of again, after at least one
-pub record NextTime (s : PharmacySettings) (phase : ℕ) : Type 0 where
+pub record NextTime (s : RetryRule) (phase : ℕ) : Type 0 where
   pub ticks : ℕ
   pub few : suc ticks ≤ s.again
   pub due_then : (phase + suc ticks) % circle s % s.again ≡ 0
 
-pub next_time : (s : PharmacySettings) (phase : ℕ) → 0 < s.again → NextTime s phase
+pub next_time : (s : RetryRule) (phase : ℕ) → 0 < s.again → NextTime s phase
 next_time s phase again =
     let a : ℕ = s.again in
     let r : ℕ = phase % a in
@@ -92,7 +92,7 @@ next_time s phase again =
     }
 
 -- ticks until the turn of a place of the list
-pub record Turn (s : PharmacySettings) (phase place : ℕ) : Type 0 where
+pub record Turn (s : RetryRule) (phase place : ℕ) : Type 0 where
   pub ticks : ℕ
   pub few : suc ticks ≤ circle s
   pub there : (phase + suc ticks) % circle s ≡ place * (s.again * s.tries)
@@ -107,7 +107,7 @@ turn_by phase target c below inside false is =
     let sum : phase + suc (c - suc phase + target) ≡ c + target = omega (arith, below) in
     (c - suc phase + target, omega (arith, below, after), ap (λ (x : ℕ). x % c) sum ∙ (add-mod_left c target ∙ mod-eq_of_lt inside))
 
-pub turn : (s : PharmacySettings) (phase place : ℕ) → 0 < s.again → 0 < s.tries → phase < circle s → place < length s.nodes → Turn s phase place
+pub turn : (s : RetryRule) (phase place : ℕ) → 0 < s.again → 0 < s.tries → phase < circle s → place < length s.nodes → Turn s phase place
 turn s phase place again tries below in_list =
     let b : ℕ = s.again * s.tries in
     let inside : place * b < circle s = subst (λ (x : ℕ). place * b < x) (mul_comm (length s.nodes) b) (mul-lt-mul_of_pos_right in_list (mul-pos again tries)) in
@@ -115,11 +115,11 @@ turn s phase place again tries below in_list =
     record { ticks = t.0; few = t.1; there = t.2 }
 
 -- at its turn the entry is due, and goes to the switch of that place
-pub turn_due : (s : PharmacySettings) (place : ℕ) → place * (s.again * s.tries) % s.again ≡ 0
+pub turn_due : (s : RetryRule) (place : ℕ) → place * (s.again * s.tries) % s.again ≡ 0
 turn_due s place =
     let e : place * (s.again * s.tries) ≡ s.again * (place * s.tries) = mul_left_comm place s.again s.tries in
     ap (λ (x : ℕ). x % s.again) e ∙ mul-mod_right s.again (place * s.tries)
 
-pub turn_switch : (s : PharmacySettings) (place m : ℕ) → 0 < s.again → 0 < s.tries → slice_get s.nodes place ≡ Some m → switch_at s (place * (s.again * s.tries)) ≡ m
+pub turn_switch : (s : RetryRule) (place m : ℕ) → 0 < s.again → 0 < s.tries → slice_get s.nodes place ≡ Some m → switch_at s (place * (s.again * s.tries)) ≡ m
 turn_switch s place m again tries is =
     ap (λ (x : ℕ). slice_index s.nodes x) (mul-div_cancel place (mul-pos again tries)) ∙ get_or_from_slice_get s.nodes place m 0 is

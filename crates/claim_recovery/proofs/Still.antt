@@ -11,8 +11,8 @@ use Rattle.claim_model.specs.Numbered.{numbered, renumbered}
 use Rattle.claim_model.specs.Rows.{Book}
 use Rattle.claim_model.specs.Journal.{State, Waits, Has, Entry, Journal, JournalAtRest, circle, ticked_state, ticked, due_by, due_from, due, heard, answer_in, kept_entry, stopped}
 use Rattle.claim_model.specs.Table.{Table}
-use Rattle.claim_model.specs.Node.{Node, Pharmacy, Switch, Payer, Power, Up, AtRest, Sent, Call, Submit, Tick, Take, Stop, Start, Reprice, Adjudicate, Outcome, Done, Refused, to_switch, pharmacy_takes, pharmacy_step, switch_step, payer_step}
-use Rattle.claim_model.specs.World.{World, Packet, Event, Submission, Ticking, Delivery, Stopping, Starting, PlanChange, Adjudication, on_pharmacy, on_switch, on_payer, on_node, delivered, adjudicated, step, world_after}
+use Rattle.claim_model.specs.Node.{Node, Pharmacy, Switch, Payer, Power, Up, AtRest, Sent, Call, Submit, Tick, Take, Stop, Start, Revise, Adjudicate, Outcome, Done, Refused, to_switch, pharmacy_takes, pharmacy_step, switch_step, payer_step}
+use Rattle.claim_model.specs.World.{World, Packet, Event, Submission, Ticking, Delivery, Stopping, Starting, Revising, Adjudication, on_pharmacy, on_switch, on_payer, on_node, delivered, adjudicated, step, world_after}
 use Rattle.claim_model.specs.Held.{journal_in}
 use Rattle.claim_model.proofs.Lists.{numbered_put, numbered_put_other, all_at}
 use Rattle.claim_model.proofs.Sound.{with_pharmacy}
@@ -37,7 +37,7 @@ still_entries phases (e ∷ es) all = ap₂ (λ (s : State) (more : List Entry).
 
 ticked_still : (j : Journal) → AllSettled (stopped j) → ticked j ≡ j
 unfolding ticked stopped
-ticked_still j all = ap (λ (es : List Entry). record { number = j.number; settings = j.settings; entries = es }) (still_entries (circle j.settings) j.entries all)
+ticked_still j all = ap (λ (es : List Entry). record { number = j.number; settings = j.settings; rule = j.rule; entries = es }) (still_entries (circle j.rule) j.entries all)
 
 nothing_by : (ctx : Context) (j : Journal) (number : ℕ) (request : List ℕ) (s : State) (a : List ℕ) → answer_in s ≡ Some a → due_by ctx j number request s ≡ []
 nothing_by ctx j number request (Waits phase) a h = absurd (none_some h)
@@ -82,7 +82,7 @@ IsQuietCall Tick = ⊤
 IsQuietCall (Take from bytes) = ⊤
 IsQuietCall Stop = ⊥
 IsQuietCall Start = ⊥
-IsQuietCall (Reprice change) = ⊥
+IsQuietCall (Revise change) = ⊥
 IsQuietCall (Adjudicate from bytes advice) = ⊤
 
 takes_nothing : (ctx : Context) (j : Journal) (r : Result Envelope EnvelopeFault) (next : Power Journal JournalAtRest) (sent : List Sent) → AllSettled (stopped j) → pharmacy_takes ctx j r ≡ Done next sent → next ≡ Up j
@@ -103,7 +103,7 @@ still_pharmacy ctx (AtRest j) next (Adjudicate from bytes advice) sent all q e =
 still_pharmacy ctx s next (Submit text) sent all q e = absurd q
 still_pharmacy ctx s next Stop sent all q e = absurd q
 still_pharmacy ctx s next Start sent all q e = absurd q
-still_pharmacy ctx s next (Reprice change) sent all q e = absurd q
+still_pharmacy ctx s next (Revise change) sent all q e = absurd q
 
 abbrev SparesCall : ℕ → Node → Call → Type 0
 SparesCall n (Pharmacy m) call = m ≡ n → IsQuietCall call
@@ -168,7 +168,7 @@ at_event ctx w v n s (Ticking m) sent is all q e = at_node ctx w v n s (Pharmacy
 at_event ctx w v n s (Delivery k) sent is all q e = at_delivery ctx w v n s sent (numbered w.packets k) is all e
 at_event ctx w v n s (Stopping node) sent is all q e = at_node ctx w v n s node Stop sent is all (other_spares n node Stop q) e
 at_event ctx w v n s (Starting node) sent is all q e = at_node ctx w v n s node Start sent is all (other_spares n node Start q) e
-at_event ctx w v n s (PlanChange m change) sent is all q e = at_node ctx w v n s (Payer m) (Reprice change) sent is all tt e
+at_event ctx w v n s (Revising node revision) sent is all q e = at_node ctx w v n s node (Revise revision) sent is all (other_spares n node (Revise revision) q) e
 at_event ctx w v n s (Adjudication k advice) sent is all q e = at_adjudication ctx w v n s advice sent (numbered w.packets k) is all e
 
 at_outcome : (ctx : Context) (w : World) (n : ℕ) (s : Power Journal JournalAtRest) (event : Event) (o : Outcome World) → numbered w.pharmacies n ≡ Some s → AllSettled (journal_in s) → Spares n event → step ctx w event ≡ o → numbered (world_after w o).pharmacies n ≡ Some s

@@ -11,8 +11,8 @@ use Rattle.claim_model.specs.Rows.{Row, Book, ruled_row, ruled_rows}
 use Rattle.claim_model.specs.Judgement.{standing_for, next_serial}
 use Rattle.claim_model.specs.Book.{last_serial, serial_fits, row_of, new_row, unadvised, Answered, answered}
 use Rattle.claim_model.specs.Journal.{JournalAtRest}
-use Rattle.claim_model.specs.Node.{Node, Power, Up, AtRest, Sent, Call, Submit, Tick, Take, Stop, Start, Reprice, Adjudicate, Done, after_answer, payer_takes, advice_in, after_reprice}
-use Rattle.claim_model.specs.World.{World, Event, Submission, Ticking, Delivery, Stopping, Starting, PlanChange, Adjudication, step, run, world_after}
+use Rattle.claim_model.specs.Node.{Node, Power, Up, AtRest, Sent, Call, Submit, Tick, Take, Stop, Start, Revise, OfPlan, Payer, Adjudicate, Done, after_answer, payer_takes, advice_in, after_reprice}
+use Rattle.claim_model.specs.World.{World, Event, Submission, Ticking, Delivery, Stopping, Starting, Revising, Adjudication, step, run, world_after}
 use Rattle.claim_model.specs.Settings.{WorldSettings}
 use Rattle.claim_model.specs.Held.{book_in, journal_at, book_at, row_at, asked}
 use Rattle.claim_model.specs.Promises.{Reached}
@@ -91,7 +91,7 @@ NoReprice Tick = ⊤
 NoReprice (Take from bytes) = ⊤
 NoReprice Stop = ⊤
 NoReprice Start = ⊤
-NoReprice (Reprice change) = ⊥
+NoReprice (Revise change) = ⊥
 NoReprice (Adjudicate from bytes advice) = ⊤
 
 used_keeps : (ctx : Context) (id : TxnId) (request : List ℕ) (c : Claim) (m : Amounts) (k : ℕ) → slice_get (ctx.orders request) k ≡ Some (Ok (Bills c)) → Keeps ctx (IsUsedUp ctx id request c m) NoReprice
@@ -100,7 +100,7 @@ used_keeps ctx id request c m k at (Up b) next (Adjudicate from bytes advice) se
     used_takes ctx id request c m k b (advice_in ctx advice) from (ctx.read_envelope bytes) next sent at u (asked_first b.settings.asks _ next sent e).1
 used_keeps ctx id request c m k at (Up b) next Stop sent q u e = subst (λ (x : Power Book Book). IsUsedUp ctx id request c m (book_in x)) (done_same (AtRest b) next [] sent e).0 u
 used_keeps ctx id request c m k at (AtRest b) next Start sent q u e = subst (λ (x : Power Book Book). IsUsedUp ctx id request c m (book_in x)) (done_same (Up b) next [] sent e).0 u
-used_keeps ctx id request c m k at (Up b) next (Reprice change) sent q u e = absurd q
+used_keeps ctx id request c m k at (Up b) next (Revise change) sent q u e = absurd q
 used_keeps ctx id request c m k at (Up b) next (Submit text) sent q u e = absurd cc
 used_keeps ctx id request c m k at (Up b) next Tick sent q u e = absurd cc
 used_keeps ctx id request c m k at (Up b) next Start sent q u e = absurd cc
@@ -108,7 +108,7 @@ used_keeps ctx id request c m k at (AtRest b) next (Submit text) sent q u e = ab
 used_keeps ctx id request c m k at (AtRest b) next Tick sent q u e = absurd cc
 used_keeps ctx id request c m k at (AtRest b) next (Take from bytes) sent q u e = absurd cc
 used_keeps ctx id request c m k at (AtRest b) next Stop sent q u e = absurd cc
-used_keeps ctx id request c m k at (AtRest b) next (Reprice change) sent q u e = absurd cc
+used_keeps ctx id request c m k at (AtRest b) next (Revise change) sent q u e = absurd q
 used_keeps ctx id request c m k at (AtRest b) next (Adjudicate from bytes advice) sent q u e = absurd cc
 
 kept_calls : (payer : ℕ) (event : Event) → KeepsPlan payer event → CallsFor NoReprice payer event
@@ -117,7 +117,7 @@ kept_calls payer (Ticking n) h = tt
 kept_calls payer (Delivery k) h = λ from bytes. tt
 kept_calls payer (Stopping node) h = tt
 kept_calls payer (Starting node) h = tt
-kept_calls payer (PlanChange n change) h = λ same. absurd (h same)
+kept_calls payer (Revising node revision) h = λ same. absurd (h same)
 kept_calls payer (Adjudication k advice) h = λ from bytes. tt
 
 all_kept : (payer : ℕ) (events : List Event) → AllByRecursion (KeepsPlan payer) events → AllByRecursion (CallsFor NoReprice payer) events
@@ -161,17 +161,17 @@ rejected_at ctx b plan id request zero c by_plan none at free = absurd cc
 rejected_at ctx b plan id request (suc k) c by_plan none at free = unpriced_rejected ctx (with_plan b plan) unadvised (ruled_rows ctx b.rows) id 1 k (ctx.orders request) c by_plan (none_priced ctx b plan request none) free at
 
 changes_plan : (ctx : Context) (w : World) (payer : ℕ) (b : Book) (change : Change) (plan : Plan) → numbered w.payers payer ≡ Some (Up b) → ctx.reprice b.plan change ≡ Ok plan
-    → step ctx w (PlanChange payer change) ≡ Done (with_payer w payer (Up (with_plan b plan)) []) []
+    → step ctx w (Revising (Payer payer) (OfPlan change)) ≡ Done (with_payer w payer (Up (with_plan b plan)) []) []
 unfolding step
-changes_plan ctx w payer b change plan up e = on_payer_forward ctx w payer (Up b) (Up (with_plan b plan)) (Reprice change) [] up (ap (after_reprice b) e)
+changes_plan ctx w payer b change plan up e = on_payer_forward ctx w payer (Up b) (Up (with_plan b plan)) (Revise (OfPlan change)) [] up (ap (after_reprice b) e)
 
 pub rejected_after : (ctx : Context) (given : WorldSettings) (w : World) (journal : JournalAtRest) (id : TxnId) (request : List ℕ) (h : RequestHeader) (payer : ℕ) (b : Book) (change : Change) (plan : Plan) → Reached ctx given w → Timely given → journal_at w id.pharmacy ≡ Some journal → IsOpen w id request
     → IsAskedOf ctx w id request h payer b → numbered w.payers payer ≡ Some (Up b) → row_of id b.rows ≡ None → b.settings.asks ≡ false → length b.rows < b.settings.cap → ctx.reprice b.plan change ≡ Ok plan → PaysNone ctx plan request → RejectedAfter ctx w journal id request payer b change plan
 rejected_after ctx given w journal id request h payer b change plan r timely there o x up fresh by_plan room e none =
     let b' : Book = with_plan b plan in
     let v : World = with_payer w payer (Up b') [] in
-    let changes : step ctx w (PlanChange payer change) ≡ Done v [] = changes_plan ctx w payer b change plan up e in
-    let rv : Reached ctx given v = reached_on ctx given w v (PlanChange payer change ∷ []) r (ap (world_after w) changes) in
+    let changes : step ctx w (Revising (Payer payer) (OfPlan change)) ≡ Done v [] = changes_plan ctx w payer b change plan up e in
+    let rv : Reached ctx given v = reached_on ctx given w v (Revising (Payer payer) (OfPlan change) ∷ []) r (ap (world_after w) changes) in
     let book : book_at v payer ≡ Some b' = ap (option_map book_in) (numbered_put w.payers payer (Up b) (Up b') up) in
     let route : payer_for ctx id h ≡ Some b'.payer = x.route ∙ ap (λ (k : ℕ). Some k) (sym (book_sound ctx given w payer b (reached_sound ctx given w r) x.book).payer) in
     let fits : list_all serial_fits (new_row ctx b' unadvised id request).rulings ≡ true = unpriced_fit ctx b' unadvised (ruled_rows ctx b'.rows) id 1 (ctx.orders request) by_plan (none_priced ctx b plan request none) in

@@ -5,7 +5,7 @@ use Rattle.claim_model.specs.Words.{TxnId}
 use Rattle.claim_model.specs.Context.{Context}
 use Rattle.claim_model.specs.Readable.{request_envelope}
 use Rattle.claim_model.specs.Numbered.{numbered}
-use Rattle.claim_model.specs.Journal.{PharmacySettings, State, Waits, Has, Entry, Journal, JournalAtRest, Kept, circle, switch_at, sending, ticked_state, ticked, due, answer_in, kept_entry, stopped, started}
+use Rattle.claim_model.specs.Journal.{RetryRule, State, Waits, Has, Entry, Journal, JournalAtRest, Kept, circle, switch_at, sending, ticked_state, ticked, due, answer_in, kept_entry, stopped, started}
 use Rattle.claim_model.specs.Node.{Pharmacy, Switch, Power, Up, AtRest, to_switch}
 use Rattle.claim_model.specs.World.{World, Packet, Event, Ticking, Starting, packet_from}
 use Rattle.claim_model.specs.Settings.{WorldSettings}
@@ -92,40 +92,40 @@ woken ctx may w id request m o =
 -- ---- ticks
 
 -- after this many ticks
-pub record Ticked (ctx : Context) (may : Event → Type 0) (w : World) (id : TxnId) (request : List ℕ) (settings : PharmacySettings) (phase ticks : ℕ) : Type 0 where
+pub record Ticked (ctx : Context) (may : Event → Type 0) (w : World) (id : TxnId) (request : List ℕ) (rule : RetryRule) (phase ticks : ℕ) : Type 0 where
   pub world : World
   pub path : Path ctx may w world ticks 0 0
   pub same : Same id.pharmacy w world
   pub switches : world.switches ≡ w.switches
   pub journal : Journal
   pub up : numbered world.pharmacies id.pharmacy ≡ Some (Up journal)
-  pub settings_are : journal.settings ≡ settings
-  pub stands : numbered journal.entries id.number ≡ Some (record { request = request; state = Waits ((phase + ticks) % circle settings) })
+  pub rule_is : journal.rule ≡ rule
+  pub stands : numbered journal.entries id.number ≡ Some (record { request = request; state = Waits ((phase + ticks) % circle rule) })
 
 ticked_entry : (j : Journal) (number phase : ℕ) (request : List ℕ) → numbered j.entries number ≡ Some (record { request = request; state = Waits phase })
-    → numbered (ticked j).entries number ≡ Some (record { request = request; state = Waits ((phase + 1) % circle j.settings) })
+    → numbered (ticked j).entries number ≡ Some (record { request = request; state = Waits ((phase + 1) % circle j.rule) })
 unfolding ticked
 ticked_entry j number phase request e =
-    numbered_map (λ (x : Entry). record { request = x.request; state = ticked_state (circle j.settings) x.state }) j.entries number
-    ∙ ap (option_map (λ (x : Entry). record { request = x.request; state = ticked_state (circle j.settings) x.state })) e
+    numbered_map (λ (x : Entry). record { request = x.request; state = ticked_state (circle j.rule) x.state }) j.entries number
+    ∙ ap (option_map (λ (x : Entry). record { request = x.request; state = ticked_state (circle j.rule) x.state })) e
 
-ticked_settings : (j : Journal) → (ticked j).settings ≡ j.settings
+ticked_rule : (j : Journal) → (ticked j).rule ≡ j.rule
 unfolding ticked
-ticked_settings j = refl
+ticked_rule j = refl
 
 -- one tick more
-tick_more : (ctx : Context) (may : Event → Type 0) (w : World) (id : TxnId) (request : List ℕ) (settings : PharmacySettings) (phase ticks : ℕ) → may (Ticking id.pharmacy) → Ticked ctx may w id request settings phase ticks
-    → Ticked ctx may w id request settings phase (suc ticks)
-tick_more ctx may w id request settings phase ticks m t =
+tick_more : (ctx : Context) (may : Event → Type 0) (w : World) (id : TxnId) (request : List ℕ) (rule : RetryRule) (phase ticks : ℕ) → may (Ticking id.pharmacy) → Ticked ctx may w id request rule phase ticks
+    → Ticked ctx may w id request rule phase (suc ticks)
+tick_more ctx may w id request rule phase ticks m t =
     let n : ℕ = id.pharmacy in
     let j : Journal = t.journal in
     let sent = map to_switch (due ctx (ticked j)) in
     let v : World = with_pharmacy t.world n (Up (ticked j)) sent in
     let count : ticks + 1 ≡ suc ticks = omega arith in
     let one : Path ctx may t.world v 1 0 0 = path_tick ctx may t.world v n sent m (tick_pharmacy ctx t.world n j t.up) in
-    let next : numbered (ticked j).entries id.number ≡ Some (record { request = request; state = Waits (((phase + ticks) % circle settings + 1) % circle settings) }) =
-    subst (λ (s : PharmacySettings). numbered (ticked j).entries id.number ≡ Some (record { request = request; state = Waits (((phase + ticks) % circle settings + 1) % circle s) })) t.settings_are
-    (ticked_entry j id.number ((phase + ticks) % circle settings) request t.stands) in
+    let next : numbered (ticked j).entries id.number ≡ Some (record { request = request; state = Waits (((phase + ticks) % circle rule + 1) % circle rule) }) =
+    subst (λ (s : RetryRule). numbered (ticked j).entries id.number ≡ Some (record { request = request; state = Waits (((phase + ticks) % circle rule + 1) % circle s) })) t.rule_is
+    (ticked_entry j id.number ((phase + ticks) % circle rule) request t.stands) in
     record {
       world = v;
       path = subst (λ (k : ℕ). Path ctx may w v k 0 0) count (path_then ctx may w t.world v ticks 0 0 1 0 0 t.path one);
@@ -133,12 +133,12 @@ tick_more ctx may w id request settings phase ticks m t =
       switches = t.switches;
       journal = ticked j;
       up = numbered_put t.world.pharmacies n (Up j) (Up (ticked j)) t.up;
-      settings_are = ticked_settings j ∙ t.settings_are;
-      stands = next ∙ ap (λ (x : ℕ). Some (record { request = request; state = Waits x })) (phase_next phase ticks (circle settings));
+      rule_is = ticked_rule j ∙ t.rule_is;
+      stands = next ∙ ap (λ (x : ℕ). Some (record { request = request; state = Waits x })) (phase_next phase ticks (circle rule));
     }
 
-pub ticks_on : (ctx : Context) (may : Event → Type 0) (w : World) (id : TxnId) (request : List ℕ) (ticks : ℕ) → may (Ticking id.pharmacy) → (x : IsWaiting w id request) → x.phase < circle x.journal.settings
-    → Ticked ctx may w id request x.journal.settings x.phase ticks
+pub ticks_on : (ctx : Context) (may : Event → Type 0) (w : World) (id : TxnId) (request : List ℕ) (ticks : ℕ) → may (Ticking id.pharmacy) → (x : IsWaiting w id request) → x.phase < circle x.journal.rule
+    → Ticked ctx may w id request x.journal.rule x.phase ticks
 ticks_on ctx may w id request zero m x below =
     record {
       world = w;
@@ -147,10 +147,10 @@ ticks_on ctx may w id request zero m x below =
       switches = refl;
       journal = x.journal;
       up = x.up;
-      settings_are = refl;
-      stands = x.stands ∙ ap (λ (p : ℕ). Some (record { request = request; state = Waits p })) (sym (phase_here x.phase (circle x.journal.settings) below));
+      rule_is = refl;
+      stands = x.stands ∙ ap (λ (p : ℕ). Some (record { request = request; state = Waits p })) (sym (phase_here x.phase (circle x.journal.rule) below));
     }
-ticks_on ctx may w id request (suc ticks) m x below = tick_more ctx may w id request x.journal.settings x.phase ticks m (ticks_on ctx may w id request ticks m x below)
+ticks_on ctx may w id request (suc ticks) m x below = tick_more ctx may w id request x.journal.rule x.phase ticks m (ticks_on ctx may w id request ticks m x below)
 
 -- ---- the entry is sent
 
@@ -173,33 +173,33 @@ unfolding ticked stopped
 ticked_number j = refl
 
 -- the packet of a sending, by the pharmacy's number and the switch of the phase
-packet_is : (ctx : Context) (j : Journal) (n number phase m : ℕ) (request : List ℕ) → j.number ≡ n → switch_at j.settings phase ≡ m
+packet_is : (ctx : Context) (j : Journal) (n number phase m : ℕ) (request : List ℕ) → j.number ≡ n → switch_at j.rule phase ≡ m
     → ◌≡◌ {A = Option Packet} (Some (packet_from (Pharmacy n) (to_switch (sending ctx j number phase request)))) (Some (record { from = Pharmacy n; to = Switch m; bytes = ctx.envelope (request_envelope (record { pharmacy = n; number = number }) request) }))
 packet_is ctx j n number phase m request mine to =
     ap (λ (k : ℕ). Some (record { from = Pharmacy n; to = Switch k; bytes = ctx.envelope (request_envelope (record { pharmacy = j.number; number = number }) request) })) to
     ∙ ap (λ (k : ℕ). Some (record { from = Pharmacy n; to = Switch m; bytes = ctx.envelope (request_envelope (record { pharmacy = k; number = number }) request) })) mine
 
 -- the tick at which the phase is a multiple of again sends the request to the switch of that phase
-pub asked_at : (ctx : Context) (given : WorldSettings) (may : Event → Type 0) (w : World) (id : TxnId) (request : List ℕ) (ticks phase m : ℕ) → Reached ctx given w → may (Ticking id.pharmacy) → (x : IsWaiting w id request) → x.phase < circle x.journal.settings
-    → (x.phase + suc ticks) % circle x.journal.settings ≡ phase → phase % x.journal.settings.again ≡ 0 → switch_at x.journal.settings phase ≡ m → Asked ctx may w id request (suc ticks) m
+pub asked_at : (ctx : Context) (given : WorldSettings) (may : Event → Type 0) (w : World) (id : TxnId) (request : List ℕ) (ticks phase m : ℕ) → Reached ctx given w → may (Ticking id.pharmacy) → (x : IsWaiting w id request) → x.phase < circle x.journal.rule
+    → (x.phase + suc ticks) % circle x.journal.rule ≡ phase → phase % x.journal.rule.again ≡ 0 → switch_at x.journal.rule phase ≡ m → Asked ctx may w id request (suc ticks) m
 asked_at ctx given may w id request ticks phase m r ok x below at_phase is_due to =
     let n : ℕ = id.pharmacy in
-    let s : PharmacySettings = x.journal.settings in
+    let s : RetryRule = x.journal.rule in
     let t = ticks_on ctx may w id request ticks ok x below in
     let j : Journal = t.journal in
     let sent = map to_switch (due ctx (ticked j)) in
     let v : World = with_pharmacy t.world n (Up (ticked j)) sent in
-    let settings : (ticked j).settings ≡ s = ticked_settings j ∙ t.settings_are in
+    let rule : (ticked j).rule ≡ s = ticked_rule j ∙ t.rule_is in
     let count : ticks + 1 ≡ suc ticks = omega arith in
     let path : Path ctx may w v (suc ticks) 0 0 =
     subst (λ (k : ℕ). Path ctx may w v k 0 0) count (path_then ctx may w t.world v ticks 0 0 1 0 0 t.path (path_tick ctx may t.world v n sent ok (tick_pharmacy ctx t.world n j t.up))) in
     let next : numbered (ticked j).entries id.number ≡ Some (record { request = request; state = Waits (((x.phase + ticks) % circle s + 1) % circle s) }) =
-    subst (λ (q : PharmacySettings). numbered (ticked j).entries id.number ≡ Some (record { request = request; state = Waits (((x.phase + ticks) % circle s + 1) % circle q) })) t.settings_are
+    subst (λ (q : RetryRule). numbered (ticked j).entries id.number ≡ Some (record { request = request; state = Waits (((x.phase + ticks) % circle s + 1) % circle q) })) t.rule_is
     (ticked_entry j id.number ((x.phase + ticks) % circle s) request t.stands) in
     let stands : numbered (ticked j).entries id.number ≡ Some (record { request = request; state = Waits phase }) =
     next ∙ ap (λ (p : ℕ). Some (record { request = request; state = Waits p })) (phase_next x.phase ticks (circle s) ∙ at_phase) in
     let is_sent : IsSent ctx (ticked j) id.number phase request (due ctx (ticked j)) =
-    due_has ctx (ticked j) id.number phase request stands (ap (λ (q : PharmacySettings). phase % q.again) settings ∙ is_due) in
+    due_has ctx (ticked j) id.number phase request stands (ap (λ (q : RetryRule). phase % q.again) rule ∙ is_due) in
     let up : numbered v.pharmacies n ≡ Some (Up (ticked j)) = numbered_put t.world.pharmacies n (Up j) (Up (ticked j)) t.up in
     let number : (ticked j).number ≡ n = ticked_number j ∙ ((reached_sound ctx given t.world (reached_by ctx given may w t.world ticks 0 0 r t.path)).pharmacies n (Up j) t.up).number in
     let grown = path_grows ctx may w t.world ticks 0 0 t.path in
@@ -207,7 +207,7 @@ asked_at ctx given may w id request ticks phase m r ok x below at_phase is_due t
     get_map (packet_from (Pharmacy n)) sent is_sent.place ∙ ap (option_map (packet_from (Pharmacy n))) (get_map to_switch (due ctx (ticked j)) is_sent.place ∙ ap (option_map to_switch) is_sent.stands) in
     let packet : numbered v.packets (length t.world.packets + is_sent.place + 1) ≡ Some (packet_from (Pharmacy n) (to_switch (sending ctx (ticked j) id.number phase request))) =
     numbered_beyond t.world.packets (map (packet_from (Pharmacy n)) sent) is_sent.place _ place in
-    let switch : switch_at (ticked j).settings phase ≡ m = ap (λ (q : PharmacySettings). switch_at q phase) settings ∙ to in
+    let switch : switch_at (ticked j).rule phase ≡ m = ap (λ (q : RetryRule). switch_at q phase) rule ∙ to in
     record {
       world = v;
       path = path;

@@ -8,13 +8,12 @@ use Rattle.claim_model.specs.Rows.{Book, ruled_rows}
 use Rattle.claim_model.specs.Judgement.{next_serial}
 use Rattle.claim_model.specs.Book.{last_serial}
 use Rattle.claim_model.specs.Numbered.{numbered}
-use Rattle.claim_model.specs.Journal.{PharmacySettings, Journal, JournalAtRest, Kept}
+use Rattle.claim_model.specs.Journal.{RetryRule, Journal, JournalAtRest, Kept}
 use Rattle.claim_model.specs.Node.{Pharmacy, Power}
 use Rattle.claim_model.specs.World.{World, Event, run}
-use Rattle.claim_model.specs.Settings.{WorldSettings}
 use Rattle.claim_model.specs.Held.{journal_in, book_at, asked, row_at, held}
 use Rattle.claim_recovery.specs.Help.{AllDone, Helps}
-use Rattle.claim_recovery.specs.Recovered.{IsOpen}
+use Rattle.claim_recovery.specs.Recovered.{rule_at, IsOpen}
 
 -- ---- the open entries of a world, by their ids
 
@@ -67,13 +66,13 @@ RoomForAll ctx w ids = (payer : ℕ) (b : Book) → book_at w payer ≡ Some b �
 
 -- ---- what is reached
 
-abbrev pub again_in : Option PharmacySettings → ℕ
+abbrev pub again_in : Option RetryRule → ℕ
 again_in None = 0
-again_in (Some s) = s.again
+again_in (Some r) = r.again
 
--- an open entry costs one wait of its pharmacy, four deliveries and three starts at most
-abbrev pub cost : WorldSettings → TxnId → ℕ
-cost settings id = again_in (numbered settings.pharmacies id.pharmacy) + 7
+-- an open entry costs one wait of its pharmacy, as its rule is then, four deliveries and three starts at most
+abbrev pub cost : World → TxnId → ℕ
+cost w id = again_in (rule_at w id.pharmacy) + 7
 
 -- the pharmacy of an id holds its answer
 pub record IsSettled (ctx : Context) (w : World) (id : TxnId) : Type 0 where
@@ -81,10 +80,10 @@ pub record IsSettled (ctx : Context) (w : World) (id : TxnId) : Type 0 where
   pub settled : held ctx w (Pharmacy id.pharmacy) id ≡ Some answer
 
 -- one list of accepted events that help, after which every entry that was open has its answer, and no entry of any pharmacy is open
-pub record AllRecovered (ctx : Context) (settings : WorldSettings) (w : World) : Type 0 where
+pub record AllRecovered (ctx : Context) (w : World) : Type 0 where
   pub events : List Event
   pub done : AllDone ctx w events
   pub help : AllByRecursion (Helps (length w.packets)) events
-  pub few : length events ≤ sum_by (cost settings) (open_ids w)
+  pub few : length events ≤ sum_by (cost w) (open_ids w)
   pub settled : (id : TxnId) (request : List ℕ) → IsOpen w id request → IsSettled ctx (run ctx w events) id
   pub none_open : (id : TxnId) (request : List ℕ) → IsOpen (run ctx w events) id request → ⊥

@@ -5,7 +5,7 @@ use Rattle.claim_model.specs.Context.{Context}
 use Rattle.claim_model.specs.Numbered.{numbered}
 use Rattle.claim_model.specs.Journal.{Journal, JournalAtRest, Kept, stopped}
 use Rattle.claim_model.specs.Node.{Node, Pharmacy, Switch, Payer, Power, Up, Done}
-use Rattle.claim_model.specs.World.{World, Event, Submission, Ticking, Delivery, Stopping, Starting, PlanChange, Adjudication, step, run}
+use Rattle.claim_model.specs.World.{World, Event, Submission, Ticking, Delivery, Stopping, Starting, Revising, Adjudication, step, run}
 use Rattle.claim_model.specs.Held.{journal_in}
 
 pub record HasAnswer (k : Kept) : Type 0 where
@@ -21,14 +21,14 @@ IsOther n (Pharmacy m) = m ≡ n → ⊥
 IsOther n (Switch m) = ⊤
 IsOther n (Payer m) = ⊤
 
--- any event but a submission, a stop or a start of this pharmacy
+-- any event but a submission, a stop, a start or another rule of this pharmacy
 abbrev pub Spares : ℕ → Event → Type 0
 Spares n (Submission m text) = m ≡ n → ⊥
 Spares n (Ticking m) = ⊤
 Spares n (Delivery k) = ⊤
 Spares n (Stopping node) = IsOther n node
 Spares n (Starting node) = IsOther n node
-Spares n (PlanChange m change) = ⊤
+Spares n (Revising node revision) = IsOther n node
 Spares n (Adjudication k advice) = ⊤
 
 -- a tick of such a pharmacy sends nothing and changes nothing at all

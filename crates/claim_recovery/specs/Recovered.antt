@@ -1,5 +1,5 @@
 -- An open entry is answered by a short list of events, and nobody else is touched.
-use Rattle.std.specs.Prelude.{◌≡◌, ℕ, true, ◌≤◌, List, [], ◌∷◌, ◌++◌, length, Option, Some, None, Ok}
+use Rattle.std.specs.Prelude.{◌≡◌, ℕ, true, ◌≤◌, List, [], ◌∷◌, ◌++◌, length, Option, Some, None, Ok, option_map}
 use Rattle.std.specs.List.{AllByRecursion}
 use Rattle.claim_model.specs.Words.{Advice, TxnId, RequestHeader}
 use Rattle.claim_model.specs.Context.{Context}
@@ -7,11 +7,15 @@ use Rattle.claim_model.specs.Readable.{readable, payer_for}
 use Rattle.claim_model.specs.Rows.{Book}
 use Rattle.claim_model.specs.Book.{row_of, new_row, unadvised, Answered, answered}
 use Rattle.claim_model.specs.Numbered.{numbered}
-use Rattle.claim_model.specs.Journal.{JournalAtRest, circle}
+use Rattle.claim_model.specs.Journal.{RetryRule, JournalAtRest, circle}
 use Rattle.claim_model.specs.Node.{Pharmacy, advice_in}
 use Rattle.claim_model.specs.World.{World, Event, run}
-use Rattle.claim_model.specs.Held.{book_at, entry_of, asked, held}
+use Rattle.claim_model.specs.Held.{journal_at, book_at, entry_of, asked, held}
 use Rattle.claim_recovery.specs.Help.{AllDone, HelpsOne, HelpsWithoutSwitch, is_tick, is_delivery, is_start, how_many}
+
+-- the rule of retries by which a pharmacy goes
+abbrev pub rule_at : World → ℕ → Option RetryRule
+rule_at w n = option_map (λ (j : JournalAtRest). j.rule) (journal_at w n)
 
 -- the pharmacy of an id has it as an open entry with this request
 abbrev pub IsOpen : World → TxnId → List ℕ → Type 0
@@ -52,11 +56,11 @@ pub record RecoveredBy (ctx : Context) (w : World) (id : TxnId) (may : Event →
 
 -- with ticks of this pharmacy alone, one wait at most, and three starts at most; what is delivered was sent after this moment
 abbrev pub Recovered : Context → World → JournalAtRest → TxnId → Type 0
-Recovered ctx w journal id = RecoveredBy ctx w id (HelpsOne (length w.packets) id.pharmacy) journal.settings.again 3
+Recovered ctx w journal id = RecoveredBy ctx w id (HelpsOne (length w.packets) id.pharmacy) journal.rule.again 3
 
 -- with one circle of ticks at most, two starts at most, and none of a switch
 abbrev pub RecoveredThrough : Context → World → JournalAtRest → TxnId → Type 0
-RecoveredThrough ctx w journal id = RecoveredBy ctx w id (HelpsWithoutSwitch (length w.packets) id.pharmacy) (circle journal.settings) 2
+RecoveredThrough ctx w journal id = RecoveredBy ctx w id (HelpsWithoutSwitch (length w.packets) id.pharmacy) (circle journal.rule) 2
 
 -- a book with one row more, which is what the rules give for this request with an advice
 abbrev pub one_row_more : Context → Book → Advice → TxnId → List ℕ → Book
@@ -79,6 +83,8 @@ pub record LeavesOthers (ctx : Context) (w v : World) (id : TxnId) (request : Li
   pub pharmacies : (n : ℕ) → (n ≡ id.pharmacy → ⊥) → numbered v.pharmacies n ≡ numbered w.pharmacies n
   -- every other entry of this pharmacy
   pub entries : (number : ℕ) → (number ≡ id.number → ⊥) → entry_of v (record { pharmacy = id.pharmacy; number = number }) ≡ entry_of w (record { pharmacy = id.pharmacy; number = number })
+  -- the rule by which it sends again
+  pub rule : rule_at v id.pharmacy ≡ rule_at w id.pharmacy
   -- the entry's own request
   pub asks : asked v id ≡ Some request
   pub books : (n : ℕ) → BookLeft ctx id request n (book_at w n) (book_at v n)

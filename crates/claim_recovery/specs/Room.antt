@@ -9,8 +9,8 @@ use Rattle.claim_model.specs.Judgement.{verdict_in, consent_in, asks_reversals, 
 use Rattle.claim_model.specs.Book.{last_serial, row_of, new_row, unadvised, Answered, answered}
 use Rattle.claim_model.specs.Numbered.{numbered}
 use Rattle.claim_model.specs.Journal.{JournalAtRest}
-use Rattle.claim_model.specs.Node.{Node, Done}
-use Rattle.claim_model.specs.World.{World, Event, Submission, Ticking, Delivery, Stopping, Starting, PlanChange, Adjudication, step, run}
+use Rattle.claim_model.specs.Node.{Node, Payer, OfPlan, Done}
+use Rattle.claim_model.specs.World.{World, Event, Submission, Ticking, Delivery, Stopping, Starting, Revising, Adjudication, step, run}
 use Rattle.claim_model.specs.Held.{book_at, asked, held}
 use Rattle.claim_recovery.specs.Recovered.{Recovered}
 
@@ -44,7 +44,7 @@ KeepsPlan payer (Ticking n) = ⊤
 KeepsPlan payer (Delivery k) = ⊤
 KeepsPlan payer (Stopping node) = ⊤
 KeepsPlan payer (Starting node) = ⊤
-KeepsPlan payer (PlanChange n change) = n ≡ payer → ⊥
+KeepsPlan payer (Revising node revision) = node ≡ Payer payer → ⊥
 KeepsPlan payer (Adjudication k advice) = ⊤
 
 -- an advice has what may be asked about the order at a place, from 0: a verdict on a claim, and a consent to a reversal where the payer asks about these
@@ -81,7 +81,7 @@ with_plan b plan = record { payer = b.payer; settings = b.settings; plan = plan;
 -- after a change of plan the entry can be answered, and each of its claims that has no standing payment is then rejected with 70
 pub record RejectedAfter (ctx : Context) (w : World) (journal : JournalAtRest) (id : TxnId) (request : List ℕ) (payer : ℕ) (b : Book) (change : Change) (plan : Plan) : Type 0 where
   pub world : World
-  pub changes : step ctx w (PlanChange payer change) ≡ Done world []
+  pub changes : step ctx w (Revising (Payer payer) (OfPlan change)) ≡ Done world []
   pub recovered : Recovered ctx world journal id
   pub answer : Answered
   pub answers : answered ctx (with_plan b plan) unadvised id request ≡ Ok answer

@@ -6,7 +6,7 @@ use Rattle.claim_model.specs.Context.{Context}
 use Rattle.claim_model.specs.Readable.{request_envelope}
 use Rattle.claim_model.specs.Numbered.{numbered}
 use Rattle.claim_model.specs.Node.{Pharmacy, Switch}
-use Rattle.claim_model.specs.World.{World, Event, Submission, Ticking, Delivery, Stopping, Starting, PlanChange, Adjudication, run}
+use Rattle.claim_model.specs.World.{World, Event, Submission, Ticking, Delivery, Stopping, Starting, Revising, Adjudication, run}
 use Rattle.claim_recovery.specs.Help.{AllDone}
 
 -- a tick of this pharmacy
@@ -16,7 +16,7 @@ IsTickOf n (Ticking m) = m ≡ n
 IsTickOf n (Delivery k) = ⊥
 IsTickOf n (Stopping node) = ⊥
 IsTickOf n (Starting node) = ⊥
-IsTickOf n (PlanChange m change) = ⊥
+IsTickOf n (Revising m change) = ⊥
 IsTickOf n (Adjudication k advice) = ⊥
 
 -- after at most this many accepted ticks of its pharmacy, the request of an id was sent to this switch, later than this moment

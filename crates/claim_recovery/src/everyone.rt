@@ -11,5 +11,5 @@ ghost use Rattle.claim_recovery.specs.Everyone.{RoomForAll, AllRecovered, open_i
 /// open entry of every pharmacy, where each book has room and serials for those that it has not decided yet.
 pub fn all_open_entries_recover()
     ensures { (ctx : Context) (settings : WorldSettings) (w : World) → Reached ctx settings w → Timely settings
-        → RoomForAll ctx w (open_ids w) → AllRecovered ctx settings w }
+        → RoomForAll ctx w (open_ids w) → AllRecovered ctx w }
 {}

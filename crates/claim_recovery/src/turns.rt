@@ -19,8 +19,8 @@ ghost use Rattle.claim_recovery.specs.Turn.{SentTo};
 pub fn listed_switches_get_their_turn()
     ensures { (ctx : Context) (settings : WorldSettings) (w : World) (id : TxnId) (request : List ℕ) (j : Journal)
         (place switch : ℕ) → Reached ctx settings w → Timely settings → numbered w.pharmacies id.pharmacy ≡ Some (Up j)
-        → IsOpen w id request → slice_get j.settings.nodes place ≡ Some switch
-        → SentTo ctx w id request switch (circle j.settings) }
+        → IsOpen w id request → slice_get j.rule.nodes place ≡ Some switch
+        → SentTo ctx w id request switch (circle j.rule) }
 {}
 
 /// So where one listed switch is up, an open entry is settled with no start of a switch: by at most one circle
@@ -29,6 +29,6 @@ pub fn one_listed_switch_suffices()
     ensures { (ctx : Context) (settings : WorldSettings) (w : World) (id : TxnId) (request : List ℕ)
         (journal : JournalAtRest) (place switch : ℕ) (table : Table) → Reached ctx settings w → Timely settings
         → journal_at w id.pharmacy ≡ Some journal → IsOpen w id request → Answerable ctx w id request
-        → slice_get journal.settings.nodes place ≡ Some switch → numbered w.switches switch ≡ Some (Up table)
+        → slice_get journal.rule.nodes place ≡ Some switch → numbered w.switches switch ≡ Some (Up table)
         → RecoveredThrough ctx w journal id }
 {}

@@ -1,6 +1,5 @@
 -- A run from settings, with the logs of its nodes.
 use Rattle.std.specs.Prelude.{◌≡◌, List}
-use Rattle.bin_routes.specs.Table.{routes_of}
 use Rattle.claim_model.specs.Bytes.{bytes_with}
 use Rattle.claim_model.specs.Context.{Context}
 use Rattle.claim_model.specs.Settings.{opening}
@@ -9,10 +8,11 @@ use Rattle.world_setup.specs.Seen.{settings_seen}
 use Rattle.world_setup.specs.declared.settings.WorldSettings.{WorldSettings}
 use Rattle.claimdump.specs.NodeLogs.{AllLogs, each, gone_on, no_calls}
 use Rattle.claimdump.specs.declared.recorded.Recorded.{Recorded}
+use Rattle.world_setup.specs.Taken.{routes_in}
 
 -- the reading of bytes under settings
 abbrev pub context_under : WorldSettings → Context
-context_under s = bytes_with (routes_of s.routes.items)
+context_under s = bytes_with (routes_in s)
 
 -- the world that they open
 abbrev pub opened_by : WorldSettings → World
@@ -24,6 +24,6 @@ run_logs s events = each (gone_on (context_under s) (opened_by s) events) (no_ca
 
 -- what is there after that run
 pub record IsRun (s : WorldSettings) (events : List Event) (after : Recorded) : Type 0 where
-  pub routes : after.world.routes ≡ routes_of s.routes.items
+  pub routes : after.world.routes ≡ routes_in s
   pub world : after.world.world ≡ run (context_under s) (opened_by s) events
   pub logs : after.logs ≡ run_logs s events

@@ -4,7 +4,7 @@ ghost use Rattle.std.specs.Prelude.{◌≡◌, Some, None, map, option_map, IfOk
 ghost use Rattle.claim_model.specs.Numbered.{numbered};
 ghost use Rattle.claim_model.specs.Nodes.{adjudicating, asked, taking};
 ghost use Rattle.world_setup.specs.Seen.{event_seen, packet_seen};
-ghost use Rattle.claimdump.specs.Calls.{asked_of, priced, submitted};
+ghost use Rattle.claimdump.specs.Calls.{asked_of, priced, ruled, submitted};
 
 use octets::Octets;
 use std::alloc::AllocError;
@@ -30,6 +30,12 @@ pub(crate) fn call_of(packets: &[Packet], event: &Event) -> Result<Option<(Node,
             let (fee, copay) = (*fee, *copay);
             Ok(Some((Node::Payer(*payer), Call::Terms { fee, copay })))
         }
+        Event::Retry {
+            pharmacy,
+            nodes,
+            again,
+            tries,
+        } => ruled(*pharmacy, nodes, *again, *tries),
         Event::Adjudicate { packet, advice } => adjudicated(packets, *packet, advice),
     }
 }
@@ -52,6 +58,24 @@ fn priced(
 {
     let product = product.copy()?;
     Ok(Some((Node::Payer(payer), Call::Plan { product, price })))
+}
+
+/// Another rule of retries.
+fn ruled(
+    pharmacy: u16,
+    nodes: &Octets,
+    again: u32,
+    tries: u32,
+) -> Result<Option<(Node, Call)>, AllocError>
+    ensures { IfOk result (λ call. option_map asked_of call ≡ Some (ruled pharmacy nodes.now again tries)) }
+{
+    let nodes = nodes.copy()?;
+    let call = Call::Retry {
+        nodes,
+        again,
+        tries,
+    };
+    Ok(Some((Node::Pharmacy(pharmacy), call)))
 }
 
 /// The taking of the packet of a number.

@@ -7,7 +7,7 @@ use Rattle.claim_model.specs.Readable.{readable, payer_for, is_request}
 use Rattle.claim_model.specs.declared.refusal.Refusal.{Refusal}
 use Rattle.claim_model.specs.Numbered.{numbered}
 use Rattle.claim_model.specs.Table.{Slot, Table, Requested, slot_of, entered_where, requested_again, requested_by, requested_readable, requested, Responded, responded_with, responded_by, responded_readable, responded}
-use Rattle.claim_model.specs.Node.{Switch, Power, Up, AtRest, Call, Submit, Tick, Take, Stop, Start, Reprice, Adjudicate, Outcome, Done, Refused, after_request, after_response, switch_takes, switch_step}
+use Rattle.claim_model.specs.Node.{Switch, Power, Up, AtRest, Call, Submit, Tick, Take, Stop, Start, Revise, Adjudicate, Outcome, Done, Refused, after_request, after_response, switch_takes, switch_step}
 use Rattle.claim_model.specs.Settings.{WorldSettings, switches_of, opening}
 use Rattle.claim_model.specs.Nodes.{AnyNode, OfPharmacy, OfSwitch, OfPayer, as_node, node_step, node_at}
 use Rattle.claim_model.specs.Logs.{Logged, node_after, replay}
@@ -106,14 +106,14 @@ switch_keeps ctx c (Up t) Stop k = k
 switch_keeps ctx c (Up t) (Submit text) k = tt
 switch_keeps ctx c (Up t) Tick k = tt
 switch_keeps ctx c (Up t) Start k = tt
-switch_keeps ctx c (Up t) (Reprice change) k = tt
+switch_keeps ctx c (Up t) (Revise revision) k = tt
 switch_keeps ctx c (Up t) (Adjudicate from bytes advice) k = tt
 switch_keeps ctx c (AtRest cap) Start k = k
 switch_keeps ctx c (AtRest cap) (Submit text) k = tt
 switch_keeps ctx c (AtRest cap) Tick k = tt
 switch_keeps ctx c (AtRest cap) (Take from bytes) k = tt
 switch_keeps ctx c (AtRest cap) Stop k = tt
-switch_keeps ctx c (AtRest cap) (Reprice change) k = tt
+switch_keeps ctx c (AtRest cap) (Revise revision) k = tt
 switch_keeps ctx c (AtRest cap) (Adjudicate from bytes advice) k = tt
 
 -- a switch of this cap

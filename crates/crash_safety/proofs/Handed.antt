@@ -11,11 +11,12 @@ use Rattle.claim_model.specs.Carried.{Carries, IsVouched}
 use Rattle.claim_model.specs.Local.{Follows}
 use Rattle.claim_model.specs.Laws.{Laws}
 use Rattle.claim_model.specs.Numbered.{numbered}
-use Rattle.claim_model.specs.Node.{Node, Pharmacy, Switch, Payer, Call, Submit, Tick, Take, Stop, Start, Reprice, Adjudicate, Sent, Outcome, Done, Refused, Power, pharmacy_step}
-use Rattle.claim_model.specs.World.{World, Packet, Event, Submission, Ticking, Delivery, Stopping, Starting, PlanChange, Adjudication, packet_from, step, world_after, run}
+use Rattle.claim_model.specs.Node.{Node, Pharmacy, Switch, Payer, Call, Submit, Tick, Take, Stop, Start, Revise, OfPlan, OfRule, Adjudicate, Sent, Outcome, Done, Refused, Power, Revision, pharmacy_step, payer_step}
+use Rattle.claim_model.specs.World.{World, Packet, Event, Submission, Ticking, Delivery, Stopping, Starting, Revising, Adjudication, packet_from, step, world_after, run}
 use Rattle.claim_model.specs.Settings.{WorldSettings, Accepts, opening}
-use Rattle.claim_model.specs.Nodes.{AnyNode, OfPharmacy, as_node, node_step, node_at, same_node, Asked, taking, adjudicating, asked}
+use Rattle.claim_model.specs.Nodes.{AnyNode, OfPharmacy, OfPayer, as_node, node_step, node_at, same_node, Asked, taking, adjudicating, asked}
 use Rattle.claim_model.specs.Journal.{Journal, JournalAtRest}
+use Rattle.claim_model.specs.Rows.{Book}
 use Rattle.claim_model.specs.Logs.{Logged, log_in, node_after, replay, Makes, posted_by}
 use Rattle.claim_model.specs.Promises.{Reached, OneStandingPayment, ReversedByOwner, CountedPaymentsStand, StandingAreCounted, StaysDecided}
 use Rattle.claim_model.proofs.Lists.{all_at, all_append, all_weaker, numbered_more}
@@ -50,7 +51,7 @@ use Rattle.crash_safety.proofs.Moving.{some_is, none_some, sent_by}
 use Rattle.crash_safety.proofs.Worlds.{same_world, reached}
 use Rattle.crash_safety.proofs.Telling.{told_decided, final_at}
 use Rattle.crash_safety.proofs.Lighter.{among_left, among_right}
-use Rattle.crash_safety.proofs.Explaining.{among_split, among_one, NoSwitch, OnlyPayers, with_advice, pharmacy_unadvised, explained_goes}
+use Rattle.crash_safety.proofs.Explaining.{among_split, among_one, NoSwitch, OfItsKind, with_advice, pharmacy_made, payer_made, explained_goes}
 use Rattle.crash_safety.proofs.Tracking.{outside_unchanged, outside_called, logs_outside, sent_to_switch}
 use Rattle.crash_safety.proofs.Taking.{IsSent, explained_more, sent_of}
 use Rattle.crash_safety.proofs.Deciding.{explains_only}
@@ -107,7 +108,7 @@ call_of ctx packets node (Payer k) bytes d x = absurd (d x.1.0 x.1.1)
 call_of ctx packets node (Switch m) bytes d x = x
 
 abbrev AskedSo : Context → List Packet → Asked → Type 0
-AskedSo ctx packets a = NoSwitch a.node → OnlyPayers a.node a.call → IsExplained ctx packets a.node a.call
+AskedSo ctx packets a = NoSwitch a.node → OfItsKind a.node a.call → IsExplained ctx packets a.node a.call
 
 stops : (ctx : Context) (packets : List Packet) (node : Node) → NoSwitch node → IsExplained ctx packets node Stop
 stops ctx packets (Pharmacy n) d = tt
@@ -119,6 +120,19 @@ starts ctx packets (Pharmacy n) d = tt
 starts ctx packets (Payer n) d = tt
 starts ctx packets (Switch m) d = absurd (d m refl)
 
+revises : (ctx : Context) (packets : List Packet) (node : Node) (revision : Revision) → NoSwitch node → OfItsKind node (Revise revision) → IsExplained ctx packets node (Revise revision)
+revises ctx packets (Pharmacy n) (OfPlan change) d o = let p = o.plan change refl in absurd (no_payer n p.0 p.1)
+  where
+    no_payer : (n m : ℕ) → Pharmacy n ≡ Payer m → ⊥
+    no_payer n m e = cc
+revises ctx packets (Pharmacy n) (OfRule rule) d o = tt
+revises ctx packets (Payer n) (OfPlan change) d o = tt
+revises ctx packets (Payer n) (OfRule rule) d o = let p = o.rule rule refl in absurd (no_pharmacy n p.0 p.1)
+  where
+    no_pharmacy : (n m : ℕ) → Payer n ≡ Pharmacy m → ⊥
+    no_pharmacy n m e = cc
+revises ctx packets (Switch m) revision d o = absurd (d m refl)
+
 asked_so : (ctx : Context) (packets wire : List Packet) (event : Event) (a : Asked) → ((p : Packet) → IsAmong wire p → IsHanded ctx packets p) → asked wire event ≡ Some a → AskedSo ctx packets a
 asked_so ctx packets wire (Submission n text) a f e = subst (AskedSo ctx packets) (same_some (record { node = Pharmacy n; call = Submit text }) a e) (λ d o. tt)
 asked_so ctx packets wire (Ticking n) a f e = subst (AskedSo ctx packets) (same_some (record { node = Pharmacy n; call = Tick }) a e) (λ d o. tt)
@@ -127,10 +141,10 @@ asked_so ctx packets wire (Delivery k) a f e =
     subst (AskedSo ctx packets) t.2 (λ d o. call_of ctx packets t.0.to t.0.from t.0.bytes d (f t.0 (record { number = k; is = t.1 })))
 asked_so ctx packets wire (Stopping node) a f e = subst (AskedSo ctx packets) (same_some (record { node = node; call = Stop }) a e) (λ d o. stops ctx packets node d)
 asked_so ctx packets wire (Starting node) a f e = subst (AskedSo ctx packets) (same_some (record { node = node; call = Start }) a e) (λ d o. starts ctx packets node d)
-asked_so ctx packets wire (PlanChange n change) a f e = subst (AskedSo ctx packets) (same_some (record { node = Payer n; call = Reprice change }) a e) (λ d o. tt)
+asked_so ctx packets wire (Revising node revision) a f e = subst (AskedSo ctx packets) (same_some (record { node = node; call = Revise revision }) a e) (λ d o. revises ctx packets node revision d o)
 asked_so ctx packets wire (Adjudication k advice) a f e =
     let t = map_some (adjudicating advice) (numbered wire k) a e in
-    subst (AskedSo ctx packets) t.2 (λ d o. with_advice ctx packets t.0.to t.0.from t.0.bytes advice (o t.0.from t.0.bytes advice refl) (call_of ctx packets t.0.to t.0.from t.0.bytes d (f t.0 (record { number = k; is = t.1 }))))
+    subst (AskedSo ctx packets) t.2 (λ d o. with_advice ctx packets t.0.to t.0.from t.0.bytes advice (o.advice t.0.from t.0.bytes advice refl) (call_of ctx packets t.0.to t.0.from t.0.bytes d (f t.0 (record { number = k; is = t.1 }))))
 
 called_well : (ctx : Context) (s : WorldSettings) (packets : List Packet) (node : Node) (p : Process) (m next : AnyNode) (l : Logged) → IsWellHere ctx s packets node p → IsExplained ctx packets node l.call → p.memory ≡ Some m → node_step ctx m l.call ≡ Done next l.sent
     → IsWellHere ctx s packets node (record { memory = Some next; synced = p.synced; unsynced = p.unsynced ++ l ∷ [] })
@@ -164,23 +178,39 @@ replay_pharmacy ctx x (l ∷ log) =
     let r = replay_pharmacy ctx a.0 log in
     (r.0, ap (λ (z : AnyNode). replay ctx z log) a.1 ∙ r.1)
 
--- so only a payer makes a call with an advice
-made_only : (ctx : Context) (s : WorldSettings) (packets : List Packet) (node : Node) (p : Process) (m next : AnyNode) (call : Call) (sent : List Sent) → NoSwitch node → IsWellHere ctx s packets node p → p.memory ≡ Some m → node_step ctx m call ≡ Done next sent → OnlyPayers node call
-made_only ctx s packets (Payer n) p m next call sent d w is steps = λ from bytes advice e. (n, refl)
+after_payer : (o : Outcome (Power Book Book)) (x : Power Book Book) → (y : Power Book Book) × (node_after (OfPayer x) (as_node OfPayer o) ≡ OfPayer y)
+after_payer (Refused why) x = (x, refl)
+after_payer (Done next sent) x = (next, refl)
+
+replay_payer : (ctx : Context) (x : Power Book Book) (log : List Logged) → (y : Power Book Book) × (replay ctx (OfPayer x) log ≡ OfPayer y)
+replay_payer ctx x [] = (x, refl)
+replay_payer ctx x (l ∷ log) =
+    let a = after_payer (payer_step ctx x l.call) x in
+    let r = replay_payer ctx a.0 log in
+    (r.0, ap (λ (z : AnyNode). replay ctx z log) a.1 ∙ r.1)
+
+-- so only a payer makes a call with an advice or with a change of a plan, and only a pharmacy one with a rule of retries
+made_only : (ctx : Context) (s : WorldSettings) (packets : List Packet) (node : Node) (p : Process) (m next : AnyNode) (call : Call) (sent : List Sent) → NoSwitch node → IsWellHere ctx s packets node p → p.memory ≡ Some m → node_step ctx m call ≡ Done next sent → OfItsKind node call
+made_only ctx s packets (Payer n) p m next call sent d w is steps =
+    let was = some_is ctx s (Payer n) (file p) m (w.memory m is) in
+    let b = map_some OfPayer (numbered (opening s).payers n) was.0 was.1 in
+    let r = replay_payer ctx b.0 (file p) in
+    let same : OfPayer r.0 ≡ m = sym r.1 ∙ (ap (λ (z : AnyNode). replay ctx z (file p)) b.2 ∙ was.2) in
+    payer_made ctx n r.0 call next sent (ap (λ (z : AnyNode). node_step ctx z call) same ∙ steps)
 made_only ctx s packets (Switch k) p m next call sent d w is steps = absurd (d k refl)
 made_only ctx s packets (Pharmacy n) p m next call sent d w is steps =
     let was = some_is ctx s (Pharmacy n) (file p) m (w.memory m is) in
     let j = map_some OfPharmacy (numbered (opening s).pharmacies n) was.0 was.1 in
     let r = replay_pharmacy ctx j.0 (file p) in
     let same : OfPharmacy r.0 ≡ m = sym r.1 ∙ (ap (λ (z : AnyNode). replay ctx z (file p)) j.2 ∙ was.2) in
-    pharmacy_unadvised ctx n r.0 call next sent (ap (λ (z : AnyNode). node_step ctx z call) same ∙ steps)
+    pharmacy_made ctx n r.0 call next sent (ap (λ (z : AnyNode). node_step ctx z call) same ∙ steps)
 
-after_well : (ctx : Context) (s : WorldSettings) (packets : List Packet) (node : Node) (p : Process) (m : AnyNode) (call : Call) (o : Outcome AnyNode) → NoSwitch node → IsWellHere ctx s packets node p → (OnlyPayers node call → IsExplained ctx packets node call) → p.memory ≡ Some m → node_step ctx m call ≡ o
+after_well : (ctx : Context) (s : WorldSettings) (packets : List Packet) (node : Node) (p : Process) (m : AnyNode) (call : Call) (o : Outcome AnyNode) → NoSwitch node → IsWellHere ctx s packets node p → (OfItsKind node call → IsExplained ctx packets node call) → p.memory ≡ Some m → node_step ctx m call ≡ o
     → IsWellHere ctx s packets node (after_call p call o)
 after_well ctx s packets node p m call (Refused why) d w c is e = w
 after_well ctx s packets node p m call (Done next sent) d w c is e = called_well ctx s packets node p m next (record { call = call; sent = sent }) w (c (made_only ctx s packets node p m next call sent d w is e)) is e
 
-calls_well : (ctx : Context) (s : WorldSettings) (packets : List Packet) (node : Node) (p : Process) (call : Call) (o : Option AnyNode) → NoSwitch node → IsWellHere ctx s packets node p → (OnlyPayers node call → IsExplained ctx packets node call) → p.memory ≡ o → IsWellHere ctx s packets node (calls ctx p call o)
+calls_well : (ctx : Context) (s : WorldSettings) (packets : List Packet) (node : Node) (p : Process) (call : Call) (o : Option AnyNode) → NoSwitch node → IsWellHere ctx s packets node p → (OfItsKind node call → IsExplained ctx packets node call) → p.memory ≡ o → IsWellHere ctx s packets node (calls ctx p call o)
 calls_well ctx s packets node p call None d w c is = w
 calls_well ctx s packets node p call (Some m) d w c is = after_well ctx s packets node p m call (node_step ctx m call) d w c is refl
 
@@ -656,7 +686,7 @@ sound_explained ctx s v packets n (Submit text) laws x f e = tt
 sound_explained ctx s v packets n Tick laws x f e = tt
 sound_explained ctx s v packets n Stop laws x f e = tt
 sound_explained ctx s v packets n Start laws x f e = tt
-sound_explained ctx s v packets n (Reprice change) laws x f e = tt
+sound_explained ctx s v packets n (Revise revision) laws x f e = tt
 sound_explained ctx s v packets n (Adjudicate from bytes advice) laws x f e = absurd e
 
 again_with : (ctx : Context) (r w : World) (id : TxnId) (a : List ℕ) → ComesAgain ctx r id a → ComesAgain ctx (with_switches r w) id a

@@ -6,7 +6,7 @@ use Rattle.std.proofs.lemmas.List.{append-nil, take-append-drop}
 use Rattle.claim_model.specs.Context.{Context}
 use Rattle.claim_model.specs.Numbered.{numbered}
 use Rattle.claim_model.specs.Node.{Node, Call, Sent, Outcome, Done, Refused}
-use Rattle.claim_model.specs.World.{World, Packet, Event, Submission, Ticking, Delivery, Stopping, Starting, PlanChange, Adjudication, step, world_after, run}
+use Rattle.claim_model.specs.World.{World, Packet, Event, Submission, Ticking, Delivery, Stopping, Starting, Revising, Adjudication, step, world_after, run}
 use Rattle.claim_model.specs.Settings.{WorldSettings, opening}
 use Rattle.claim_model.specs.Nodes.{AnyNode, node_step, node_at, Asked, taking, adjudicating, asked}
 use Rattle.claim_model.specs.Logs.{Logged, log_in, node_after, replay, Makes, posted_by, is_from}
@@ -105,7 +105,7 @@ comes_again packets wire (Ticking n) a among e = record { event = Ticking n; ask
 comes_again packets wire (Delivery k) a among e = taken_again packets wire k a among e
 comes_again packets wire (Stopping node) a among e = record { event = Stopping node; asks = e }
 comes_again packets wire (Starting node) a among e = record { event = Starting node; asks = e }
-comes_again packets wire (PlanChange n change) a among e = record { event = PlanChange n change; asks = e }
+comes_again packets wire (Revising node revision) a among e = record { event = Revising node revision; asks = e }
 comes_again packets wire (Adjudication k advice) a among e = advised_again packets wire k advice a among e
 
 calling_on : (ctx : Context) (s : WorldSettings) (n : Network) (events : List Event) (event : Event) (o : Option Asked) → IsSound ctx s n events → asked n.wire event ≡ o → Further ctx s (calling ctx n o) events

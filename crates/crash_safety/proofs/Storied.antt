@@ -31,7 +31,7 @@ pub told_after_two : (plan : Plan) → ToldAfterTwo plan
 unfolding transaction_code submitted heard stopped requested responded answered readable judged ruling moved_light
 told_after_two plan = record {
   told = record {
-    journal = Up (record { number = 1; settings = record { qualifier = []; provider = []; nodes = 1 ∷ []; again = 1; tries = 1; cap = 2 }; entries = record { request = []; state = Has (65 ∷ []) } ∷ [] });
+    journal = Up (record { number = 1; settings = record { qualifier = []; provider = []; nodes = 1 ∷ []; again = 1; tries = 1; cap = 2 }; rule = record { nodes = 1 ∷ []; again = 1; tries = 1 }; entries = record { request = []; state = Has (65 ∷ []) } ∷ [] });
     lives = refl;
     entry = record { request = []; answer = Some (65 ∷ []) };
     stands = refl;

@@ -1,5 +1,5 @@
 -- What a pharmacy has heard was decided on the disks of that moment, and so stays decided.
-use Rattle.std.proofs.Common.{◌≡◌, ℕ, true, false, List, [], ◌∷◌, ◌++◌, Option, Some, None, Result, Ok, Err, refl, sym, ap, ◌∙◌, subst, inl, inr, append_assoc}
+use Rattle.std.proofs.Common.{◌≡◌, ℕ, Bool, true, false, cond, List, [], ◌∷◌, ◌++◌, Option, Some, None, Result, Ok, Err, refl, sym, ap, ◌∙◌, subst, inl, inr, append_assoc}
 use Rattle.std.specs.Prelude.{option_map, option_and_then}
 use Rattle.std.specs.List.{AllByRecursion}
 use Rattle.std.proofs.lemmas.Bool.{cases_eq, cond-true}
@@ -11,9 +11,9 @@ use Rattle.claim_model.specs.Readable.{readable, payer_for, is_payer, rejection,
 use Rattle.claim_model.specs.Numbered.{numbered, renumbered}
 use Rattle.claim_model.specs.Rows.{Row, Book}
 use Rattle.claim_model.specs.Book.{Answered, row_of, new_row, answered_by, answered_readable, answered}
-use Rattle.claim_model.specs.Journal.{Journal, JournalAtRest, Kept, Submitted, submitted, ticked, heard, stopped, started}
-use Rattle.claim_model.specs.Node.{Node, Pharmacy, Power, Up, AtRest, Sent, Call, Submit, Tick, Take, Stop, Start, Reprice, Adjudicate, Outcome, Done, Refused, after_submit, after_hearing, pharmacy_takes, pharmacy_step}
-use Rattle.claim_model.specs.World.{World, Packet, Event, Submission, Ticking, Delivery, Stopping, Starting, PlanChange, Adjudication, run}
+use Rattle.claim_model.specs.Journal.{RetryRule, Journal, JournalAtRest, Kept, Submitted, submitted, ticked, heard, stopped, started, is_rule, with_rule, ruled_anew}
+use Rattle.claim_model.specs.Node.{Node, Pharmacy, Power, Up, AtRest, Call, Submit, Tick, Take, Stop, Start, Revise, OfPlan, OfRule, Adjudicate, Done, Refused, after_submit, after_hearing, pharmacy_takes}
+use Rattle.claim_model.specs.World.{World, Packet, Event, Submission, Ticking, Delivery, Stopping, Starting, Revising, Adjudication, run}
 use Rattle.claim_model.specs.Settings.{WorldSettings, Accepts, opening}
 use Rattle.claim_model.specs.Held.{journal_in, book_at, asked as submitted_under, row_at, row_answer, decided_by, decided_for, decided, held}
 use Rattle.claim_model.specs.Carried.{Carries, IsVouched}
@@ -25,7 +25,7 @@ use Rattle.claim_model.proofs.Options.{map_some, then_some, same_some}
 use Rattle.claim_model.proofs.Tests.{bytes_self, payer_self}
 use Rattle.claim_model.proofs.Sound.{id_at, SoundPacket, Sound}
 use Rattle.claim_model.proofs.Decided.{Origin, From, Row_of, Fixed as Rejected_for_good, row_there, origin, decided_unrouted, decided_routed, rejection_spells, row_spells}
-use Rattle.claim_model.proofs.Journals.{entry_added, entry_settled, submitted_enters, ticked_same, started_same, heard_settles}
+use Rattle.claim_model.proofs.Journals.{entry_added, entry_settled, submitted_enters, ticked_same, started_same, ruled_same, heard_settles}
 use Rattle.claim_model.proofs.PharmacyStep.{carries_reads}
 use Rattle.claim_model.proofs.SwitchStep.{response_says}
 use Rattle.claim_model.proofs.PayerStep.{Rows, Known, New, Ruled_on, answered_ruled, new_row_written}
@@ -105,7 +105,7 @@ taken_packet packets node from bytes (Submission n text) e = let f : Submit text
 taken_packet packets node from bytes (Ticking n) e = let f : Tick ≡ Take from bytes = same_call node (Pharmacy n) Tick (Take from bytes) e in absurd cc
 taken_packet packets node from bytes (Stopping x) e = let f : Stop ≡ Take from bytes = same_call node x Stop (Take from bytes) e in absurd cc
 taken_packet packets node from bytes (Starting x) e = let f : Start ≡ Take from bytes = same_call node x Start (Take from bytes) e in absurd cc
-taken_packet packets node from bytes (PlanChange n change) e = let f : Reprice change ≡ Take from bytes = same_call node (Rattle.claim_model.specs.Node.Payer n) (Reprice change) (Take from bytes) e in absurd cc
+taken_packet packets node from bytes (Revising x revision) e = let f : Revise revision ≡ Take from bytes = same_call node x (Revise revision) (Take from bytes) e in absurd cc
 taken_packet packets node from bytes (Adjudication k advice) e =
     let t = map_some (adjudicating advice) (numbered packets k) (record { node = node; call = Take from bytes }) e in
     let f : Adjudicate t.0.from t.0.bytes advice ≡ Take from bytes = ap (λ (x : Asked). x.call) t.2 in
@@ -126,7 +126,7 @@ advised_packet packets node from bytes advice (Submission n text) e = let f : Su
 advised_packet packets node from bytes advice (Ticking n) e = let f : Tick ≡ Adjudicate from bytes advice = same_call node (Pharmacy n) Tick (Adjudicate from bytes advice) e in absurd cc
 advised_packet packets node from bytes advice (Stopping x) e = let f : Stop ≡ Adjudicate from bytes advice = same_call node x Stop (Adjudicate from bytes advice) e in absurd cc
 advised_packet packets node from bytes advice (Starting x) e = let f : Start ≡ Adjudicate from bytes advice = same_call node x Start (Adjudicate from bytes advice) e in absurd cc
-advised_packet packets node from bytes advice (PlanChange n change) e = let f : Reprice change ≡ Adjudicate from bytes advice = same_call node (Rattle.claim_model.specs.Node.Payer n) (Reprice change) (Adjudicate from bytes advice) e in absurd cc
+advised_packet packets node from bytes advice (Revising x revision) e = let f : Revise revision ≡ Adjudicate from bytes advice = same_call node x (Revise revision) (Adjudicate from bytes advice) e in absurd cc
 
 carries_coming : (ctx : Context) (s : WorldSettings) (v : World) (node from : Node) (bytes : List ℕ) → Sound ctx s v → Comes v.packets node (Take from bytes) → Carries ctx v bytes
 carries_coming ctx s v node from bytes x c =
@@ -160,6 +160,14 @@ takes_still ctx s v n j bytes c laws d =
     subst (λ (o : Result Envelope EnvelopeFault). DecidesNode ctx v n (node_after (OfPharmacy (Up j)) (as_node OfPharmacy (pharmacy_takes ctx j o)))) (sym (carries_reads ctx v bytes laws c))
     (heard_still ctx v n j c.envelope (heard ctx j c.envelope) d (λ e. response_says ctx v bytes c e) refl)
 
+ruled : (ctx : Context) (v : World) (n : ℕ) (j : JournalAtRest) (rule : RetryRule) → Decides ctx v n j → Decides ctx v n (with_rule rule j)
+ruled ctx v n j rule d = record { number = d.number; answers = λ k e a h f. d.answers k e a h f }
+
+ruled_still : (ctx : Context) (v : World) (n : ℕ) (j : Journal) (rule : RetryRule) (taken : Bool) → Decides ctx v n (stopped j)
+    → DecidesNode ctx v n (node_after (OfPharmacy (Up j)) (as_node OfPharmacy (cond taken (Done (Up (ruled_anew rule j)) []) (Refused Refusal.BadRule))))
+ruled_still ctx v n j rule true d = subst (Decides ctx v n) (sym (ruled_same rule j)) (ruled ctx v n (stopped j) rule d)
+ruled_still ctx v n j rule false d = d
+
 call_still : (ctx : Context) (s : WorldSettings) (v : World) (n : ℕ) (x : Power Journal JournalAtRest) (call : Call) → Laws ctx → Decides ctx v n (journal_in x) → IsVouched ctx v call
     → DecidesNode ctx v n (node_after (OfPharmacy x) (node_step ctx (OfPharmacy x) call))
 call_still ctx s v n (Up j) (Submit text) laws d c = submitted_still ctx v n j text (submitted ctx j text) d refl
@@ -167,14 +175,16 @@ call_still ctx s v n (Up j) Tick laws d c = same_journal ctx v n (stopped j) (st
 call_still ctx s v n (Up j) (Take from bytes) laws d c = takes_still ctx s v n j bytes c laws d
 call_still ctx s v n (Up j) Stop laws d c = d
 call_still ctx s v n (Up j) Start laws d c = d
-call_still ctx s v n (Up j) (Reprice change) laws d c = d
+call_still ctx s v n (Up j) (Revise (OfPlan change)) laws d c = d
+call_still ctx s v n (Up j) (Revise (OfRule rule)) laws d c = ruled_still ctx v n j rule (is_rule ctx.switches rule) d
 call_still ctx s v n (Up j) (Adjudicate from bytes advice) laws d c = d
 call_still ctx s v n (AtRest j) Start laws d c = same_journal ctx v n j (stopped (started j)) (started_same j) d
 call_still ctx s v n (AtRest j) (Submit text) laws d c = d
 call_still ctx s v n (AtRest j) Tick laws d c = d
 call_still ctx s v n (AtRest j) (Take from bytes) laws d c = d
 call_still ctx s v n (AtRest j) Stop laws d c = d
-call_still ctx s v n (AtRest j) (Reprice change) laws d c = d
+call_still ctx s v n (AtRest j) (Revise (OfPlan change)) laws d c = d
+call_still ctx s v n (AtRest j) (Revise (OfRule rule)) laws d c = d
 call_still ctx s v n (AtRest j) (Adjudicate from bytes advice) laws d c = d
 
 node_still : (ctx : Context) (s : WorldSettings) (v : World) (n : ℕ) (node : AnyNode) (call : Call) → Laws ctx → DecidesNode ctx v n node → IsVouched ctx v call → DecidesNode ctx v n (node_after node (node_step ctx node call))
@@ -195,7 +205,7 @@ sound_coming ctx s v node (Submit text) x c = tt
 sound_coming ctx s v node Tick x c = tt
 sound_coming ctx s v node Stop x c = tt
 sound_coming ctx s v node Start x c = tt
-sound_coming ctx s v node (Reprice change) x c = tt
+sound_coming ctx s v node (Revise revision) x c = tt
 sound_coming ctx s v node (Adjudicate from bytes advice) x c = carries_advised ctx s v node from bytes advice x c
 
 -- ---- what is in memory was decided on the disks

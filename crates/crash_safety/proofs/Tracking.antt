@@ -8,12 +8,12 @@ use Rattle.claim_model.specs.Laws.{Laws}
 use Rattle.claim_model.specs.declared.refusal.Refusal.{Refusal}
 use Rattle.claim_model.specs.Readable.{readable, payer_for, same_id, is_request, request_envelope, answer_envelope}
 use Rattle.claim_model.specs.Numbered.{numbered}
-use Rattle.claim_model.specs.Journal.{Journal, JournalAtRest, Entry, Sending, Submitted, kept_entry, submitted, ticked, due, heard, stopped, started, sending}
+use Rattle.claim_model.specs.Journal.{Journal, JournalAtRest, Entry, Sending, Submitted, kept_entry, submitted, ticked, due, heard, stopped, started, sending, is_rule, ruled_anew}
 use Rattle.claim_model.specs.Table.{Slot, Table, Routed, Requested, slot_of, entered_where, routed_by, requested_again, requested_by, requested_readable, requested, filled, responded_with, responded_by, responded_readable, responded}
-use Rattle.claim_model.specs.Node.{Node, Pharmacy, Switch, Payer, Power, Up, AtRest, Sent, Call, Submit, Tick, Take, Stop, Start, Reprice, Adjudicate, Outcome, Done, Refused, to_switch, pharmacy_takes, pharmacy_step, to_payer_or_back, after_request, after_response, switch_takes, switch_step}
-use Rattle.claim_model.specs.World.{World, Packet, Event, Submission, Ticking, Delivery, Stopping, Starting, PlanChange, Adjudication, packet_from, step, world_after, run}
+use Rattle.claim_model.specs.Node.{Node, Pharmacy, Switch, Payer, Power, Up, AtRest, Sent, Call, Submit, Tick, Take, Stop, Start, Revise, OfPlan, OfRule, Adjudicate, Outcome, Done, Refused, to_switch, pharmacy_takes, pharmacy_step, to_payer_or_back, after_request, after_response, switch_takes, switch_step}
+use Rattle.claim_model.specs.World.{World, Packet, Event, Submission, Ticking, Delivery, Stopping, Starting, Revising, Adjudication, packet_from, step, world_after, run}
 use Rattle.claim_model.specs.Settings.{WorldSettings, Accepts, opening}
-use Rattle.claim_model.specs.Nodes.{AnyNode, OfPharmacy, OfSwitch, node_step, node_at, same_node, Asked, taking, adjudicating, asked}
+use Rattle.claim_model.specs.Nodes.{AnyNode, OfPharmacy, OfSwitch, OfPayer, node_step, node_at, same_node, Asked, taking, adjudicating, asked}
 use Rattle.claim_model.specs.Logs.{Logged, log_in, Makes}
 use Rattle.claim_model.specs.Local.{Follows}
 use Rattle.claim_model.specs.Promises.{Reached}
@@ -28,7 +28,7 @@ use Rattle.claim_model.proofs.Ends.{Unchanged, One_call, ended, log_unchanged, l
 use Rattle.claim_model.proofs.Replaying.{replays, absent_stays, run_unchanged}
 use Rattle.claim_model.proofs.Sound.{id_at, SoundPacket}
 use Rattle.claim_model.proofs.Journals.{Asks, submitted_enters, submitted_is, numbered_middle, due_asks}
-use Rattle.claim_model.proofs.PharmacyStep.{carries_reads, after_submit_done, after_hearing_done, done_same}
+use Rattle.claim_model.proofs.PharmacyStep.{carries_reads, after_submit_done, after_hearing_done, done_same, rule_taken}
 use Rattle.claim_model.proofs.SwitchStep.{slot_found}
 use Rattle.claim_model.proofs.Runs.{reached_sound}
 use Rattle.crash_safety.specs.Runs.{IsAmong}
@@ -36,7 +36,7 @@ use Rattle.crash_safety.specs.Explained.{Turn, log_among, packet, Heard, Answer 
 use Rattle.crash_safety.proofs.Sound.{nothing_numbered}
 use Rattle.crash_safety.proofs.Lighter.{among_left, among_right}
 use Rattle.crash_safety.proofs.Ways.{reached_on}
-use Rattle.crash_safety.proofs.Explaining.{among_split, NoSwitch, OnlyPayers, with_advice, pharmacy_unadvised, as_node_done, PayerTook, payer_took, payer_advised, payer_silent, reply_reads}
+use Rattle.crash_safety.proofs.Explaining.{among_split, NoSwitch, OfItsKind, with_advice, pharmacy_made, payer_made, as_node_done, PayerTook, payer_took, payer_advised, payer_silent, reply_reads}
 
 -- ---- what is known of a packet
 
@@ -94,7 +94,7 @@ CallTracked ctx w packets node (Submit text) = (n : ℕ) × (node ≡ Pharmacy n
 CallTracked ctx w packets node Tick = (n : ℕ) × (node ≡ Pharmacy n)
 CallTracked ctx w packets node Stop = ⊤
 CallTracked ctx w packets node Start = ⊤
-CallTracked ctx w packets node (Reprice change) = (n : ℕ) × (node ≡ Payer n)
+CallTracked ctx w packets node (Revise revision) = ⊤
 CallTracked ctx w packets node (Adjudicate from bytes advice) = TrackedFrom ctx packets from node bytes × Carries ctx w bytes
 
 abbrev AskedTracked : Context → World → List Packet → Asked → Type 0
@@ -109,7 +109,7 @@ asked_tracked ctx s w packets (Delivery k) a x e =
     subst (AskedTracked ctx w packets) t.2 (x.each t.0 there, all_at (SoundPacket ctx w) w.packets k t.0 (reached_sound ctx s w x.reached).packets t.1)
 asked_tracked ctx s w packets (Stopping node) a x e = subst (AskedTracked ctx w packets) (same_some (record { node = node; call = Stop }) a e) tt
 asked_tracked ctx s w packets (Starting node) a x e = subst (AskedTracked ctx w packets) (same_some (record { node = node; call = Start }) a e) tt
-asked_tracked ctx s w packets (PlanChange n change) a x e = subst (AskedTracked ctx w packets) (same_some (record { node = Payer n; call = Reprice change }) a e) (n, refl)
+asked_tracked ctx s w packets (Revising node revision) a x e = subst (AskedTracked ctx w packets) (same_some (record { node = node; call = Revise revision }) a e) tt
 asked_tracked ctx s w packets (Adjudication k advice) a x e =
     let t = map_some (adjudicating advice) (numbered w.packets k) a e in
     let there : IsAmong w.packets t.0 = record { number = k; is = t.1 } in
@@ -133,29 +133,36 @@ takes_explained ctx packets (Payer n) (Pharmacy k) bytes d x = absurd (d x.1.0 x
 takes_explained ctx packets (Payer n) (Payer k) bytes d x = absurd (d x.1.0 x.1.1)
 takes_explained ctx packets (Payer n) (Switch m) bytes d x = (m, refl, x)
 
-explained_of : (ctx : Context) (w : World) (packets : List Packet) (node : Node) (call : Call) → NoSwitch node → OnlyPayers node call → CallTracked ctx w packets node call → IsExplained ctx packets node call
+explained_of : (ctx : Context) (w : World) (packets : List Packet) (node : Node) (call : Call) → NoSwitch node → OfItsKind node call → CallTracked ctx w packets node call → IsExplained ctx packets node call
 explained_of ctx w packets node (Take from bytes) d o x = takes_explained ctx packets node from bytes d x.0
-explained_of ctx w packets node (Adjudicate from bytes advice) d o x = with_advice ctx packets node from bytes advice (o from bytes advice refl) (takes_explained ctx packets node from bytes d x.0)
+explained_of ctx w packets node (Adjudicate from bytes advice) d o x = with_advice ctx packets node from bytes advice (o.advice from bytes advice refl) (takes_explained ctx packets node from bytes d x.0)
 explained_of ctx w packets (Pharmacy n) (Submit text) d o x = tt
 explained_of ctx w packets (Pharmacy n) Tick d o x = tt
 explained_of ctx w packets (Pharmacy n) Stop d o x = tt
 explained_of ctx w packets (Pharmacy n) Start d o x = tt
-explained_of ctx w packets (Pharmacy n) (Reprice change) d o x = absurd (pharmacy_no_payer n x.0 x.1)
+explained_of ctx w packets (Pharmacy n) (Revise (OfPlan change)) d o x = let p = o.plan change refl in absurd (pharmacy_no_payer n p.0 p.1)
+explained_of ctx w packets (Pharmacy n) (Revise (OfRule rule)) d o x = tt
 explained_of ctx w packets (Payer n) (Submit text) d o x = absurd (pharmacy_no_payer x.0 n (sym x.1))
 explained_of ctx w packets (Payer n) Tick d o x = absurd (pharmacy_no_payer x.0 n (sym x.1))
 explained_of ctx w packets (Payer n) Stop d o x = tt
 explained_of ctx w packets (Payer n) Start d o x = tt
-explained_of ctx w packets (Payer n) (Reprice change) d o x = tt
+explained_of ctx w packets (Payer n) (Revise (OfPlan change)) d o x = tt
+explained_of ctx w packets (Payer n) (Revise (OfRule rule)) d o x = let p = o.rule rule refl in absurd (pharmacy_no_payer p.0 n (sym p.1))
 explained_of ctx w packets (Switch m) (Submit text) d o x = absurd (d m refl)
 explained_of ctx w packets (Switch m) Tick d o x = absurd (d m refl)
 explained_of ctx w packets (Switch m) Stop d o x = absurd (d m refl)
 explained_of ctx w packets (Switch m) Start d o x = absurd (d m refl)
-explained_of ctx w packets (Switch m) (Reprice change) d o x = absurd (d m refl)
+explained_of ctx w packets (Switch m) (Revise revision) d o x = absurd (d m refl)
 
-made_by_pharmacy : (ctx : Context) (w : World) (n : ℕ) (call : Call) (now next : AnyNode) (sent : List Sent) → node_at w (Pharmacy n) ≡ Some now → node_step ctx now call ≡ Done next sent → OnlyPayers (Pharmacy n) call
+made_by_pharmacy : (ctx : Context) (w : World) (n : ℕ) (call : Call) (now next : AnyNode) (sent : List Sent) → node_at w (Pharmacy n) ≡ Some now → node_step ctx now call ≡ Done next sent → OfItsKind (Pharmacy n) call
 made_by_pharmacy ctx w n call now next sent is steps =
     let j = map_some OfPharmacy (numbered w.pharmacies n) now is in
-    pharmacy_unadvised ctx n j.0 call next sent (ap (λ (x : AnyNode). node_step ctx x call) j.2 ∙ steps)
+    pharmacy_made ctx n j.0 call next sent (ap (λ (x : AnyNode). node_step ctx x call) j.2 ∙ steps)
+
+made_by_payer : (ctx : Context) (w : World) (n : ℕ) (call : Call) (now next : AnyNode) (sent : List Sent) → node_at w (Payer n) ≡ Some now → node_step ctx now call ≡ Done next sent → OfItsKind (Payer n) call
+made_by_payer ctx w n call now next sent is steps =
+    let b = map_some OfPayer (numbered w.payers n) now is in
+    payer_made ctx n b.0 call next sent (ap (λ (x : AnyNode). node_step ctx x call) b.2 ∙ steps)
 
 -- ---- what pharmacies send
 
@@ -221,13 +228,15 @@ pharmacy_asks ctx s v n (Up j) next (Take from bytes) sent r at e = hears (ctx.r
 pharmacy_asks ctx s v n (Up j) next Stop sent r at e = subst (AllByRecursion (AsksSwitch ctx n)) (done_same (AtRest (stopped j)) next [] sent e).1 tt
 pharmacy_asks ctx s v n (AtRest j) next Start sent r at e = subst (AllByRecursion (AsksSwitch ctx n)) (done_same (Up (started j)) next [] sent e).1 tt
 pharmacy_asks ctx s v n (Up j) next Start sent r at e = absurd cc
-pharmacy_asks ctx s v n (Up j) next (Reprice change) sent r at e = absurd cc
+pharmacy_asks ctx s v n (Up j) next (Revise (OfPlan change)) sent r at e = absurd cc
+pharmacy_asks ctx s v n (Up j) next (Revise (OfRule rule)) sent r at e = subst (AllByRecursion (AsksSwitch ctx n)) (rule_taken (is_rule ctx.switches rule) (Up (ruled_anew rule j)) next [] sent e).2 tt
 pharmacy_asks ctx s v n (Up j) next (Adjudicate from bytes advice) sent r at e = absurd cc
 pharmacy_asks ctx s v n (AtRest j) next (Submit text) sent r at e = absurd cc
 pharmacy_asks ctx s v n (AtRest j) next Tick sent r at e = absurd cc
 pharmacy_asks ctx s v n (AtRest j) next (Take from bytes) sent r at e = absurd cc
 pharmacy_asks ctx s v n (AtRest j) next Stop sent r at e = absurd cc
-pharmacy_asks ctx s v n (AtRest j) next (Reprice change) sent r at e = absurd cc
+pharmacy_asks ctx s v n (AtRest j) next (Revise (OfPlan change)) sent r at e = absurd cc
+pharmacy_asks ctx s v n (AtRest j) next (Revise (OfRule rule)) sent r at e = absurd cc
 pharmacy_asks ctx s v n (AtRest j) next (Adjudicate from bytes advice) sent r at e = absurd cc
 
 -- a node's own packets are among those that it sent
@@ -283,8 +292,8 @@ payer_tracked ctx s w v packets n (Submit text) now next sent r r' is at steps x
 payer_tracked ctx s w v packets n Tick now next sent r r' is at steps x = absurd (pharmacy_no_payer x.0 n (sym x.1))
 payer_tracked ctx s w v packets n Stop now next sent r r' is at steps x = silent_tracked ctx (packets ++ map (packet_from (Payer n)) sent) n sent (payer_silent ctx w n Stop now next sent (λ from bytes e. cc) (λ from bytes advice e. cc) is steps)
 payer_tracked ctx s w v packets n Start now next sent r r' is at steps x = silent_tracked ctx (packets ++ map (packet_from (Payer n)) sent) n sent (payer_silent ctx w n Start now next sent (λ from bytes e. cc) (λ from bytes advice e. cc) is steps)
-payer_tracked ctx s w v packets n (Reprice change) now next sent r r' is at steps x =
-    silent_tracked ctx (packets ++ map (packet_from (Payer n)) sent) n sent (payer_silent ctx w n (Reprice change) now next sent (λ from bytes e. cc) (λ from bytes advice e. cc) is steps)
+payer_tracked ctx s w v packets n (Revise revision) now next sent r r' is at steps x =
+    silent_tracked ctx (packets ++ map (packet_from (Payer n)) sent) n sent (payer_silent ctx w n (Revise revision) now next sent (λ from bytes e. cc) (λ from bytes advice e. cc) is steps)
 
 -- ---- what switches send
 
@@ -432,13 +441,13 @@ switch_tracked ctx w packets m (AtRest cap) next Start sent laws all c d = quiet
 switch_tracked ctx w packets m (Up t) next (Submit text) sent laws all c d = absurd cc
 switch_tracked ctx w packets m (Up t) next Tick sent laws all c d = absurd cc
 switch_tracked ctx w packets m (Up t) next Start sent laws all c d = absurd cc
-switch_tracked ctx w packets m (Up t) next (Reprice change) sent laws all c d = absurd cc
+switch_tracked ctx w packets m (Up t) next (Revise revision) sent laws all c d = absurd cc
 switch_tracked ctx w packets m (Up t) next (Adjudicate from bytes advice) sent laws all c d = absurd cc
 switch_tracked ctx w packets m (AtRest cap) next (Submit text) sent laws all c d = absurd cc
 switch_tracked ctx w packets m (AtRest cap) next Tick sent laws all c d = absurd cc
 switch_tracked ctx w packets m (AtRest cap) next (Take from bytes) sent laws all c d = absurd cc
 switch_tracked ctx w packets m (AtRest cap) next Stop sent laws all c d = absurd cc
-switch_tracked ctx w packets m (AtRest cap) next (Reprice change) sent laws all c d = absurd cc
+switch_tracked ctx w packets m (AtRest cap) next (Revise revision) sent laws all c d = absurd cc
 switch_tracked ctx w packets m (AtRest cap) next (Adjudicate from bytes advice) sent laws all c d = absurd cc
 
 -- ---- event by event
@@ -522,7 +531,7 @@ called_explained ctx s w v packets (Pharmacy n) call sent rest t r f c go =
     )
 called_explained ctx s w v packets (Payer n) call sent rest t r f c go =
     let new = map (packet_from (Payer n)) sent in (
-      explained_of ctx w packets (Payer n) call (λ m e. cc) (λ from bytes advice e. (n, refl)) c,
+      explained_of ctx w packets (Payer n) call (λ m e. cc) (made_by_payer ctx w n call f.before f.after sent f.was f.steps) c,
       go (packets ++ new)
           (tracked_after ctx s w v packets new (Payer n) call sent t r f
           (payer_tracked ctx s w v packets n call f.before f.after sent t.reached r f.was f.is f.steps c) (tables_stay ctx s w v packets new (Payer n) call sent (λ m e. cc) t f)),

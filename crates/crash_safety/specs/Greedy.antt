@@ -3,7 +3,7 @@ use Rattle.std.specs.Prelude.{◌≡◌, ◌⊎◌, ⊤, ℕ, true, List, [], �
 use Rattle.claim_model.specs.Words.{RequestHeader, Envelope, RouteKey}
 use Rattle.claim_model.specs.Context.{Context}
 use Rattle.claim_model.specs.Readable.{readable, payer_for, rejection, is_request, answer_envelope, route_key}
-use Rattle.claim_model.specs.Node.{Node, Pharmacy, Switch, Payer, Call, Submit, Tick, Take, Stop, Start, Reprice, Adjudicate}
+use Rattle.claim_model.specs.Node.{Node, Pharmacy, Switch, Payer, Call, Submit, Tick, Take, Stop, Start, Revise, Adjudicate}
 use Rattle.claim_model.specs.World.{Packet}
 use Rattle.claim_model.specs.Settings.{WorldSettings}
 use Rattle.claim_model.specs.Logs.{Logged}
@@ -45,7 +45,7 @@ RejectionStays ctx route (Pharmacy n) (Submit text) = ⊤
 RejectionStays ctx route (Pharmacy n) Tick = ⊤
 RejectionStays ctx route (Pharmacy n) Stop = ⊤
 RejectionStays ctx route (Pharmacy n) Start = ⊤
-RejectionStays ctx route (Pharmacy n) (Reprice change) = ⊤
+RejectionStays ctx route (Pharmacy n) (Revise revision) = ⊤
 RejectionStays ctx route (Pharmacy n) (Adjudicate from bytes advice) = ⊤
 RejectionStays ctx route (Switch m) call = ⊤
 RejectionStays ctx route (Payer n) call = ⊤

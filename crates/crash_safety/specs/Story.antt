@@ -40,6 +40,7 @@ small route = record {
   header = λ text. Some small_header;
   orders = λ text. Err (NotCovered ∷ []) ∷ [];
   route = λ number key. route;
+  switches = 1;
   price = λ plan claim. None;
   reprice = λ plan change. Ok plan;
   answer = λ h status rulings carried. letter status;

@@ -1,7 +1,7 @@
 -- Logs of days begin with states that are kept, and agree: from there vouched calls keep all promises.
 use Rattle.std.proofs.Common.{ℕ, List, [], Option, refl}
 use Rattle.std.specs.Global.{Vec}
-use Rattle.bin_routes.specs.Table.{RouteMaps, routes_of}
+use Rattle.bin_routes.specs.Table.{RouteMaps}
 use Rattle.claim_model.specs.Bytes.{bytes_with}
 use Rattle.claim_model.specs.Context.{Context}
 use Rattle.claim_model.specs.Laws.{Laws}
@@ -18,11 +18,12 @@ use Rattle.days_audit.specs.Begun.{HasDays}
 use Rattle.days_audit.specs.Promised.{reading_of, KeptByDays, KeptOverDays}
 use Rattle.days_audit.proofs.ReadStates.{OnlyStanding}
 use Rattle.days_audit.proofs.BegunStates.{begun_kept}
+use Rattle.world_setup.specs.Taken.{routes_in}
 
 module _ (only : OnlyStanding) (laws : (routes : RouteMaps) → Laws (bytes_with routes)) where
   days_agree : (s : WorldSettings) (rests : List (Option (Vec ℕ))) (logs : List NodeLog) (calls : ℕ) (days : HasDays s rests logs calls) → Accepts (reading_of s) (settings_seen s) → Agreeing (reading_of s) (settings_seen s) days.parties
   days_agree s rests logs calls days accepts =
-      let routes : RouteMaps = routes_of s.routes.items in
+      let routes : RouteMaps = routes_in s in
       record { laws = laws routes; accepts = accepts; kept = begun_kept s rests logs days.parties days.begin days.are.one only routes (laws routes) accepts; agree = days.agree }
 
   pub kept_by_days : (promise : Context → World → Type 0) → AlwaysFromAgreeing promise → KeptByDays promise

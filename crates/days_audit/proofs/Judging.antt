@@ -3,7 +3,6 @@ use Rattle.std.proofs.Common.{◌≡◌, ℕ, ◌≤◌, true, false, List, leng
 use Rattle.std.specs.Global.{Vec}
 use Rattle.std.specs.List.{list_all}
 use Rattle.std.proofs.lemmas.Bool.{both_ways}
-use Rattle.bin_routes.specs.Table.{routes_of}
 use Rattle.claim_model.specs.Bytes.{bytes_with}
 use Rattle.claim_model.specs.Context.{Context}
 use Rattle.claim_model.specs.Limits.{most_pharmacies}
@@ -22,9 +21,10 @@ use Rattle.days_audit.specs.Orders.{IsOrdered}
 use Rattle.days_audit.specs.declared.days.Days.{Days}
 use Rattle.days_audit.specs.declared.days.Days.TheVariants.{Legal, Not}
 use Rattle.days_audit.proofs.Beginning.{EachBegun, live_each, live_days, same_parties, days_turns, days_distinct, days_parties, days_begin}
+use Rattle.world_setup.specs.Taken.{routes_in}
 
 abbrev under : WorldSettings → Context
-under s = bytes_with (routes_of s.routes.items)
+under s = bytes_with (routes_in s)
 
 module _ (s : WorldSettings) (rests : List (Option (Vec ℕ))) (logs : List NodeLog) where
   each_of : (p : Parties) → BeginWith s rests logs p → EachBegun (begins_at s rests) logs (length s.pharmacies.items) (length s.payers.items) p

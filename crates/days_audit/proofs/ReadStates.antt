@@ -1,5 +1,6 @@
 -- What is read from a record says by itself all that a node keeps: it is read entry by entry, and row by row.
 use Rattle.std.proofs.Common.{◌≡◌, ℕ, zero, suc, ◌+◌, ◌-◌, ◌<◌, ◌≤◌, Bool, true, false, ◌&&◌, ◌==◌, cond, nat_lt, List, [], ◌∷◌, ◌++◌, length, Option, Some, None, Result, Ok, Err, refl, sym, ap, ◌∙◌, subst, arith, ltb-true, length-append}
+use Rattle.std.specs.Prelude.{if◌then◌else◌}
 use Rattle.std.specs.List.{AllByRecursion}
 use Rattle.std.proofs.lemmas.Bool.{and_parts}
 use Rattle.bin_routes.specs.Table.{RouteMaps}
@@ -9,7 +10,7 @@ use Rattle.claim_model.specs.Words.{TxnId, RequestHeader}
 use Rattle.claim_model.specs.Laws.{Laws}
 use Rattle.claim_model.specs.Bytes.{bytes_with}
 use Rattle.claim_model.specs.Rows.{BookSettings, Book}
-use Rattle.claim_model.specs.Journal.{PharmacySettings, JournalAtRest, Kept}
+use Rattle.claim_model.specs.Journal.{PharmacySettings, RetryRule, JournalAtRest, Kept, with_rule}
 use Rattle.claim_model.proofs.BytesLaws.{readable_alike}
 use Rattle.claim_model.proofs.Lists.{all_append}
 use Rattle.claim_model.proofs.Written.{MayPay}
@@ -25,7 +26,8 @@ use Rattle.kept_records.specs.Versions.{fits_version}
 use Rattle.kept_records.specs.Rows.{row_codec}
 use Rattle.kept_records.specs.Plans.{listed}
 use Rattle.kept_records.specs.Faults.{◌>>=◌, some_or, when_or, each_in, ended}
-use Rattle.kept_records.specs.Journals.{empty_journal, head_in, entry_in, entries_in, journal_in}
+use Rattle.kept_records.specs.Journals.{empty_journal, head_in, ruled_in, entry_in, entries_in, journal_in}
+use Rattle.kept_records.specs.Rules.{rule_at}
 use Rattle.kept_records.specs.Books.{first_plan, first_book, is_id, book_head_in, row_in, rows_in, book_in}
 use Rattle.vouched_runs.specs.Agreeing.{IsOwnEntry, AreNextRows}
 use Rattle.days_audit.proofs.NextRows.{stands_next}
@@ -176,11 +178,25 @@ entries_read P keep version total left j bytes after e p =
     keep old entry.request entry.answer next.0 q entry.is)
     total left j bytes after e p
 
-journal_read : (P : JournalAtRest → Type 0) → EnteredKeep P → (number : ℕ) (settings : PharmacySettings) → P (empty_journal number settings) → (bytes : List ℕ) (j : JournalAtRest) → journal_in number settings bytes ≡ Ok j → P j
+rule_read : (P : JournalAtRest → Type 0) (version : ℕ) (j : JournalAtRest) (bytes : List ℕ) (after : JournalAtRest × List ℕ) → P j → ((rule : RetryRule) → P (with_rule rule j)) → ruled_in version j bytes ≡ Ok after → P after.0
+unfolding ruled_in
+rule_read P version j bytes after first ruled e = by_version (version == 3) e
+  where
+    by_version : (t : Bool) → (if t then (rule_at j.settings bytes >>= λ (rule : RetryRule × List ℕ). Ok (with_rule rule.0 j, rule.1)) else Ok (j, bytes)) ≡ Ok after → P after.0
+    by_version true e =
+        let r = then_ok (rule_at j.settings bytes) (λ (rule : RetryRule × List ℕ). Ok (with_rule rule.0 j, rule.1)) after e in
+        subst (λ (x : JournalAtRest × List ℕ). P x.0) (ok_same (with_rule r.0.0 j, r.0.1) after r.2) (ruled r.0.0)
+    by_version false e = subst (λ (x : JournalAtRest × List ℕ). P x.0) (ok_same (j, bytes) after e) first
+
+journal_read : (P : JournalAtRest → Type 0) → EnteredKeep P → (number : ℕ) (settings : PharmacySettings) → P (empty_journal number settings) → ((rule : RetryRule) → P (with_rule rule (empty_journal number settings)))
+    → (bytes : List ℕ) (j : JournalAtRest) → journal_in number settings bytes ≡ Ok j → P j
 unfolding journal_in
-journal_read P keep number settings first bytes j e =
-    let head = then_ok (head_in number bytes) (λ h. entries_in h.0.version (length bytes) h.0.count (empty_journal number settings) h.1) j e in
-    entries_read P keep head.0.0.version (length bytes) head.0.0.count (empty_journal number settings) head.0.1 j head.2 first
+journal_read P keep number settings first ruled bytes j e =
+    let start = empty_journal number settings in
+    let head = then_ok (head_in number bytes) (λ h. ruled_in h.0.version start h.1 >>= λ (r : JournalAtRest × List ℕ). entries_in h.0.version (length bytes) h.0.count r.0 r.1) j e in
+    let h = head.0 in
+    let rule = then_ok (ruled_in h.0.version start h.1) (λ (r : JournalAtRest × List ℕ). entries_in h.0.version (length bytes) h.0.count r.0 r.1) j head.2 in
+    entries_read P keep h.0.version (length bytes) h.0.count rule.0.0 rule.0.1 j rule.2 (rule_read P h.0.version start h.1 rule.0 first ruled rule.1)
 
 -- a journal of this number and these settings, whose entries are the pharmacy's own
 pub record IsReadJournal (routes : RouteMaps) (number : ℕ) (settings : PharmacySettings) (j : JournalAtRest) : Type 0 where
@@ -198,12 +214,12 @@ entered : (routes : RouteMaps) (number : ℕ) (settings : PharmacySettings) → 
 unfolding journal.added
 entered routes number settings j request answer after p e = by_test (is_row j request answer) refl e
   where
-    by_test : (t : Bool) → is_row j request answer ≡ t → cond t (Some (record { number = j.number; settings = j.settings; entries = j.entries ++ record { request = request; answer = answer } ∷ [] })) None ≡ Some after
+    by_test : (t : Bool) → is_row j request answer ≡ t → cond t (Some (record { number = j.number; settings = j.settings; rule = j.rule; entries = j.entries ++ record { request = request; answer = answer } ∷ [] })) None ≡ Some after
         → IsReadJournal routes number settings after
     by_test false is e = absurd cc
     by_test true is e =
         let k : Kept = record { request = request; answer = answer } in
-        let longer : JournalAtRest = record { number = j.number; settings = j.settings; entries = j.entries ++ k ∷ [] } in
+        let longer : JournalAtRest = record { number = j.number; settings = j.settings; rule = j.rule; entries = j.entries ++ k ∷ [] } in
         let same : longer ≡ after = cc in
         let a = and_parts (nat_lt (length j.entries) j.settings.cap) (is_own_request j.settings request && is_kept_answer request answer) is in
         let b = and_parts (is_own_request j.settings request) (is_kept_answer request answer) a.1 in
@@ -221,4 +237,5 @@ entered routes number settings j request answer after p e = by_test (is_row j re
 
 pub is_read_journal : (routes : RouteMaps) (number : ℕ) (settings : PharmacySettings) (bytes : List ℕ) (j : JournalAtRest) → journal_in number settings bytes ≡ Ok j → IsReadJournal routes number settings j
 is_read_journal routes number settings bytes j e =
-    journal_read (IsReadJournal routes number settings) (entered routes number settings) number settings (record { of_number = refl; of_settings = refl; room = omega arith; entries = tt }) bytes j e
+    journal_read (IsReadJournal routes number settings) (entered routes number settings) number settings (record { of_number = refl; of_settings = refl; room = omega arith; entries = tt })
+    (λ rule. record { of_number = refl; of_settings = refl; room = omega arith; entries = tt }) bytes j e

@@ -2,7 +2,6 @@
 use Rattle.std.specs.Prelude.{◌≡◌, ℕ, List, length, slice_get, Option, Some, None}
 use Rattle.std.specs.Option.{option_map}
 use Rattle.std.specs.Global.{Vec}
-use Rattle.bin_routes.specs.Table.{routes_of}
 use Rattle.claim_model.specs.Bytes.{bytes_with}
 use Rattle.claim_model.specs.Logs.{NodeLog}
 use Rattle.claim_model.specs.Node.{Node}
@@ -15,6 +14,7 @@ use Rattle.vouched_runs.specs.Agreeing.{Agree}
 use Rattle.vouched_runs.specs.Days.{AreDays}
 use Rattle.days_audit.specs.declared.days.Days.{Days}
 use Rattle.days_audit.specs.declared.days.Days.TheVariants.{Legal, Not}
+use Rattle.world_setup.specs.Taken.{routes_in}
 
 -- what the log at a place begins with; nothing where the list has no such place
 abbrev pub rest_or_none : Option (Option (Vec ℕ)) → Option (List ℕ)
@@ -38,9 +38,9 @@ pub record BeginWith (s : WorldSettings) (rests : List (Option (Vec ℕ))) (logs
 pub record HasDays (s : WorldSettings) (rests : List (Option (Vec ℕ))) (logs : List NodeLog) (calls : ℕ) : Type 0 where
   pub parties : Parties
   pub begin : BeginWith s rests logs parties
-  pub agree : Agree (bytes_with (routes_of s.routes.items)) parties
+  pub agree : Agree (bytes_with (routes_in s)) parties
   pub turns : List Turn
-  pub are : AreDays (bytes_with (routes_of s.routes.items)) parties logs turns
+  pub are : AreDays (bytes_with (routes_in s)) parties logs turns
   pub count : calls ≡ length turns
 
 -- logs are those of no days, in whatever order

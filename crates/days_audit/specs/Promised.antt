@@ -1,7 +1,6 @@
 -- What logs of days promise, whatever days led to what they begin with.
 use Rattle.std.specs.Prelude.{ℕ, ◌<◌, List, Option}
 use Rattle.std.specs.Global.{Vec}
-use Rattle.bin_routes.specs.Table.{routes_of}
 use Rattle.claim_model.specs.Bytes.{bytes_with}
 use Rattle.claim_model.specs.Context.{Context}
 use Rattle.claim_model.specs.Logs.{NodeLog}
@@ -12,10 +11,11 @@ use Rattle.world_setup.specs.declared.settings.PayerSettings.{PayerSettings}
 use Rattle.world_setup.specs.declared.settings.WorldSettings.{WorldSettings}
 use Rattle.vouched_runs.specs.Parties.{world_of}
 use Rattle.days_audit.specs.Begun.{HasDays}
+use Rattle.world_setup.specs.Taken.{routes_in}
 
 -- the reading of bytes under the routes of these settings
 abbrev pub reading_of : WorldSettings → Context
-reading_of s = bytes_with (routes_of s.routes.items)
+reading_of s = bytes_with (routes_in s)
 
 -- this is true of the nodes with which logs of days begin, and of those with which the days end. The premise: settings that a world takes
 abbrev pub KeptByDays : (Context → World → Type 0) → Type 0

@@ -6,6 +6,7 @@ ghost use Rattle.claim_model.specs.Settings.{Accepts, IsPharmacySettings};
 ghost use Rattle.world_setup.specs.Seen.{settings_seen};
 ghost use Rattle.days_audit.specs.Promised.{HasSerial, reading_of};
 
+use bin_routes::number_laws;
 use claim_model::routes_lead_to_payers;
 use pharmacy_journal::PharmacySettings;
 use world_setup::{CheckedSettings, PayerSettings};
@@ -16,6 +17,7 @@ pub fn checked_settings_are_accepted(settings: &CheckedSettings)
     ensures { Accepts (reading_of settings.now) (settings_seen settings.now) }
 {
     routes_lead_to_payers();
+    number_laws();
     let given = settings.settings();
     pharmacies_are_settings(&given.pharmacies);
     payers_have_serials(&given.payers);

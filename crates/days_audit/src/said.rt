@@ -46,7 +46,8 @@ impl Live {
             | Call::Stop
             | Call::Start
             | Call::Plan { .. }
-            | Call::Terms { .. } => Ok(true),
+            | Call::Terms { .. }
+            | Call::Retry { .. } => Ok(true),
         }
     }
 

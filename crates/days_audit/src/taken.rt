@@ -18,7 +18,8 @@ pub(crate) fn packet_of(call: &Call) -> Option<&Octets> {
         | Call::Stop
         | Call::Start
         | Call::Plan { .. }
-        | Call::Terms { .. } => None,
+        | Call::Terms { .. }
+        | Call::Retry { .. } => None,
     }
 }
 

@@ -1,7 +1,7 @@
 -- What callers call their submissions, and the numbers that these have.
 use Rattle.std.specs.Prelude.{ℕ, ◌==◌, cond, List, [], ◌∷◌, ◌++◌, length}
 use Rattle.claim_model.specs.Context.{Context}
-use Rattle.claim_model.specs.Node.{Call, Submit, Tick, Take, Stop, Start, Reprice, Adjudicate}
+use Rattle.claim_model.specs.Node.{Call, Submit, Tick, Take, Stop, Start, Revise, Adjudicate}
 use Rattle.claim_model.specs.Nodes.{AnyNode, node_step}
 use Rattle.claim_model.specs.Logs.{node_after}
 use Rattle.node_state.specs.Nodes.{entries_of}
@@ -23,7 +23,7 @@ referred name Tick next = []
 referred name (Take from bytes) next = []
 referred name Stop next = []
 referred name Start next = []
-referred name (Reprice change) next = []
+referred name (Revise change) next = []
 referred name (Adjudicate from bytes advice) next = []
 
 -- the references of calls that a node makes, in order

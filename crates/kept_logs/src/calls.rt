@@ -2,14 +2,16 @@
 
 ghost use Rattle.std.specs.Prelude.{◌≡◌, ◌++◌, OnOk, IfOk};
 ghost use Rattle.std.specs.Option.{option_map};
-ghost use Rattle.claim_model.specs.Node.{Submit, Take, Reprice, Adjudicate};
+ghost use Rattle.claim_model.specs.Node.{Submit, Take, Revise, OfPlan, OfRule, Adjudicate};
 ghost use Rattle.claim_model.specs.Words.{SetPrice, SetTerms};
+ghost use Rattle.pharmacy_journal.specs.Ruling.{rule_in};
 ghost use Rattle.world_setup.specs.Seen.{node_seen, call_seen};
 ghost use Rattle.kept_logs.specs.Calls.{call_codec, call_of};
 
 use crate::nodes::{put_node, take_node};
-use codec::{put_text, put_u8, put_u32, take_text, take_u8, take_u32};
+use codec::{put_text, put_u8, put_u16s, put_u32, take_text, take_u8, take_u16s, take_u32};
 use octets::Octets;
+use pharmacy_journal::{switch_bytes, switch_numbers};
 use std::alloc::{AllocError, Global};
 use world_setup::{Call, Node};
 
@@ -27,6 +29,11 @@ pub(crate) fn put_call(out: &mut Vec<u8>, call: &Call) -> Result<(), AllocError>
         Call::Start => put_u8(out, 4),
         Call::Plan { product, price } => put_plan(out, product, *price),
         Call::Terms { fee, copay } => put_terms(out, *fee, *copay),
+        Call::Retry {
+            nodes,
+            again,
+            tries,
+        } => put_rule(out, nodes, *again, *tries),
         Call::Adjudicate {
             from,
             bytes,
@@ -77,8 +84,9 @@ fn put_adjudicate(
 /// Puts a change of a price.
 #[tactic(auto, unfolding(crate::specs::Calls::call_codec))]
 fn put_plan(out: &mut Vec<u8>, product: &Octets, price: Option<u32>) -> Result<(), AllocError>
-    ensures text { OnOk result (out.new.items ≡ out.old.items ++ call_codec.text (Reprice (SetPrice product.now price))) }
-    ensures fits { OnOk result (call_codec.Fits (Reprice (SetPrice product.now price))) }
+    ensures text { OnOk result (out.new.items
+        ≡ out.old.items ++ call_codec.text (Revise (OfPlan (SetPrice product.now price)))) }
+    ensures fits { OnOk result (call_codec.Fits (Revise (OfPlan (SetPrice product.now price)))) }
 {
     match price {
         None => {
@@ -96,12 +104,26 @@ fn put_plan(out: &mut Vec<u8>, product: &Octets, price: Option<u32>) -> Result<(
 /// Puts a change of the terms of a plan.
 #[tactic(auto, unfolding(crate::specs::Calls::call_codec))]
 fn put_terms(out: &mut Vec<u8>, fee: u32, copay: u32) -> Result<(), AllocError>
-    ensures text { OnOk result (out.new.items ≡ out.old.items ++ call_codec.text (Reprice (SetTerms fee copay))) }
-    ensures fits { OnOk result (call_codec.Fits (Reprice (SetTerms fee copay))) }
+    ensures text { OnOk result (out.new.items ≡ out.old.items ++ call_codec.text (Revise (OfPlan (SetTerms fee copay)))) }
+    ensures fits { OnOk result (call_codec.Fits (Revise (OfPlan (SetTerms fee copay)))) }
 {
     put_u8(out, 9)?;
     put_u32(out, fee)?;
     put_u32(out, copay)
+}
+
+/// Puts a rule of retries. A list of more than 65,535 switches is refused as memory would be.
+#[tactic(auto, unfolding(crate::specs::Calls::call_codec, crate::specs::Calls::rule_codec))]
+fn put_rule(out: &mut Vec<u8>, nodes: &Octets, again: u32, tries: u32) -> Result<(), AllocError>
+    ensures text { OnOk result (out.new.items
+        ≡ out.old.items ++ call_codec.text (Revise (OfRule (rule_in nodes.now again tries)))) }
+    ensures fits { OnOk result (call_codec.Fits (Revise (OfRule (rule_in nodes.now again tries)))) }
+{
+    let numbers = switch_numbers(*out.allocator(), nodes.as_slice())?;
+    put_u8(out, 10)?;
+    put_u32(out, again)?;
+    put_u32(out, tries)?;
+    put_u16s(out, &numbers)
 }
 
 /// The call at the front and what follows it; none where it is cut off or of no kind that there is.
@@ -129,6 +151,7 @@ fn call_of(alloc: Global, kind: u8, bytes: &[u8]) -> Result<Option<(Call, &[u8])
         6 => take_plan(alloc, bytes),
         8 => take_adjudicate(alloc, bytes),
         9 => Ok(take_terms(bytes)),
+        10 => take_rule(alloc, bytes),
         _ => Ok(None),
     }
 }
@@ -223,4 +246,27 @@ fn take_terms(bytes: &[u8]) -> Option<(Call, &[u8])>
     let (fee, rest) = take_u32(bytes)?;
     let (copay, rest) = take_u32(rest)?;
     Some((Call::Terms { fee, copay }, rest))
+}
+
+/// A rule of retries, and what follows it.
+#[tactic(auto, unfolding(crate::specs::Calls::rule_codec))]
+fn take_rule(alloc: Global, bytes: &[u8]) -> Result<Option<(Call, &[u8])>, AllocError>
+    ensures { IfOk result (λ o. option_map (λ taken. (call_seen taken.0, taken.1.now)) o ≡ call_of 10 bytes.now) }
+{
+    let Some((again, rest)) = take_u32(bytes) else {
+        return Ok(None);
+    };
+    let Some((tries, rest)) = take_u32(rest) else {
+        return Ok(None);
+    };
+    let Some((numbers, rest)) = take_u16s(alloc, rest)? else {
+        return Ok(None);
+    };
+    let nodes = Octets::from_vec(switch_bytes(alloc, &numbers)?);
+    let call = Call::Retry {
+        nodes,
+        again,
+        tries,
+    };
+    Ok(Some((call, rest)))
 }

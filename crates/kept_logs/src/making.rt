@@ -1,19 +1,23 @@
 //! A log that is made by its node as it is read, so that no more of it is kept than the node.
 
-ghost use Rattle.std.specs.Prelude.{◌≡◌, ◌≢◌, Ok, IfOk, OnOk};
+ghost use Rattle.std.specs.Prelude.{◌≡◌, ◌≢◌, ◌++◌, true, Ok, IfOk, OnOk};
 ghost use Rattle.claim_model.specs.Bytes.{bytes_with};
-ghost use Rattle.world_setup.specs.Seen.{node_seen};
+ghost use Rattle.world_setup.specs.Seen.{call_seen, node_seen};
+ghost use Rattle.node_log.specs.Fits.{TellsMade};
 ghost use Rattle.kept_logs.specs.declared.fault.LogFault.TheVariants.{OutOfMemory};
 ghost use Rattle.kept_logs.specs.Cuts.{IsLogOf};
 ghost use Rattle.kept_logs.specs.Digests.{version_seen};
 ghost use Rattle.kept_logs.specs.Logs.{KeptReading, kept_in};
+ghost use Rattle.kept_logs.specs.LogSeen.{call_alone};
 ghost use Rattle.kept_logs.specs.Making.{AreMadeIf, IsMadeIf};
+ghost use Rattle.kept_logs.specs.References.{referred};
 
 use crate::digest::SettingsDigest;
 use crate::fault::LogFault;
 use crate::heads::take_head;
 use crate::laws::log_is_its_text;
 use crate::logs::take_record;
+use crate::records::Entry;
 use crate::references::{Reference, note_reference};
 use crate::version::LogVersion;
 use bin_routes::Routes;
@@ -135,9 +139,12 @@ fn make_calls(
     for place in 0..bytes.len() {
         let number = place as u64 + 1;
         let start = total.saturating_sub(rest.len());
-        let (one, stamp, after) = match take_record(alloc, version, number, start, rest) {
+        match take_record(alloc, version, number, start, rest) {
             Ok(Some((entry, after))) => {
-                (Record::new(entry.call, entry.sent), entry.stamp, after)
+                if !make_entry(alloc, routes, &mut node, &mut references, entry)? {
+                    return Ok(None);
+                }
+                rest = after;
             }
             Ok(None) => {
                 return Ok(Some(MadeCalls {
@@ -151,12 +158,7 @@ fn make_calls(
                 no_record(fault)?;
                 return Ok(None);
             }
-        };
-        if !makes(alloc, routes, &mut node, &one)? {
-            return Ok(None);
         }
-        note_reference(alloc, &mut references, stamp.reference, one.call(), &node)?;
-        rest = after;
     }
     Ok(Some(MadeCalls {
         node,
@@ -164,6 +166,27 @@ fn make_calls(
         references,
         torn: rest.len(),
     }))
+}
+
+/// Makes the call that was read, and notes what it is called; whether the node makes it, and sends what was read.
+fn make_entry(
+    alloc: Global,
+    routes: &Routes,
+    node: &mut NodeState,
+    references: &mut Vec<Reference>,
+    read: Entry<'_>,
+) -> Result<bool, AllocError>
+    ensures made { IfOk result (λ yes. TellsMade yes (bytes_with routes.now) node.old (call_alone read.entry) node.new) }
+    ensures noted { IfOk result (λ yes. yes ≡ true → references.new.items
+        ≡ references.old.items ++ referred read.entry.stamp.reference.now (call_seen read.entry.call) node.new) }
+{
+    let name = read.stamp.reference;
+    let one = Record::new(read.call, read.sent);
+    if !makes(alloc, routes, node, &one)? {
+        return Ok(false);
+    }
+    note_reference(alloc, references, name, one.call(), node)?;
+    Ok(true)
 }
 
 /// That what stands here is no record, for this fault; want of memory says nothing of that.

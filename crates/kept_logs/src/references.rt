@@ -70,6 +70,7 @@ pub fn note_reference(
         Call::Start => Ok(()),
         Call::Plan { .. } => Ok(()),
         Call::Terms { .. } => Ok(()),
+        Call::Retry { .. } => Ok(()),
         Call::Adjudicate { .. } => Ok(()),
     }
 }

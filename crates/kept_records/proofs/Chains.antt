@@ -5,7 +5,7 @@ use Rattle.std.proofs.lemmas.Bool.{eqb-true}
 use Rattle.std.specs.Result.{result_ok}
 use Rattle.kept_records.specs.declared.fault.RecordFault.{RecordFault}
 use Rattle.kept_records.specs.Faults.{◌>>=◌, some_or, when_or, RefusesAs}
-use Rattle.kept_records.specs.Versions.{is_version}
+use Rattle.kept_records.specs.Versions.{is_version, is_journal_version}
 
 pub result_then : {A B : Type 0} (r : Result A RecordFault) (f : A → Result B RecordFault) (y : B) → (r >>= f) ≡ Ok y → (x : A) × (r ≡ Ok x) × (f x ≡ Ok y)
 result_then (Ok x) f y h = (x, refl, h)
@@ -38,6 +38,16 @@ of_version version known = by_tests (version == 1) (version == 2) refl refl know
     by_tests true two p q h = inr (eqb-true version 1 p)
     by_tests false true p q h = inl (eqb-true version 2 q)
     by_tests false false p q h = cc
+
+-- those of a journal
+pub of_journal_version : (version : ℕ) → is_journal_version version ≡ true → (version ≡ 3) ⊎ ((version ≡ 2) ⊎ (version ≡ 1))
+of_journal_version version known = by_tests (version == 1) (version == 2) (version == 3) refl refl refl known
+  where
+    by_tests : (one two three : Bool) → (version == 1) ≡ one → (version == 2) ≡ two → (version == 3) ≡ three → (one || (two || three)) ≡ true → (version ≡ 3) ⊎ ((version ≡ 2) ⊎ (version ≡ 1))
+    by_tests true two three p q r h = inr (inr (eqb-true version 1 p))
+    by_tests false true three p q r h = inr (inl (eqb-true version 2 q))
+    by_tests false false true p q r h = inl (eqb-true version 3 r)
+    by_tests false false false p q r h = cc
 
 -- what is read is what comes back
 pub ok_as : {A : Type 0} (all r : Result A RecordFault) → all ≡ r → IfOk r (λ x. all ≡ Ok x)

@@ -5,7 +5,8 @@ use Rattle.std.proofs.lemmas.Option.{slice_get_within, get_or_from_slice_get}
 use Rattle.claim_model.specs.Numbered.{numbered}
 use Rattle.claim_model.specs.Journal.{JournalAtRest, Kept}
 use Rattle.kept_records.specs.Entries.{entry_codec, entries_text}
-use Rattle.kept_records.specs.Journals.{IsMade, empty_journal}
+use Rattle.pharmacy_journal.specs.Resting.{without_entries}
+use Rattle.kept_records.specs.Journals.{IsMade}
 use Rattle.kept_records.proofs.Made.{IsShort, added_all_short}
 
 -- the number of an entry is one more than its place
@@ -23,7 +24,7 @@ some_at_place entries place h e = past entries place (rw add-one at e) h
 
 -- the entries of a journal that can be made are short
 pub short_at_place : (j : JournalAtRest) → IsMade j → (place : ℕ) (kept : Kept) → numbered j.entries (place + 1) ≡ Some kept → IsShort kept
-short_at_place j made place kept e = added_all_short (empty_journal j.number j.settings) j j.entries made place kept (at_place j.entries place kept e)
+short_at_place j made place kept e = added_all_short (without_entries j) j j.entries made place kept (at_place j.entries place kept e)
 
 -- an entry is put, and those after it are left
 pub put_one : (text longer all : List ℕ) (place : ℕ) (entries : List Kept) (kept : Kept) → numbered entries (place + 1) ≡ Some kept → text ++ entries_text (place + 1) (drop place entries) ≡ all → longer ≡ text ++ entry_codec.text (place + 1, kept)

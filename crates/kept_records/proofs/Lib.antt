@@ -4,6 +4,7 @@ pub mod Chains
 pub mod Loops
 pub mod Made
 pub mod Formats
+pub mod RuleFormat
 pub mod Ordered
 pub mod PlanLaws
 pub mod RowLaws
@@ -12,6 +13,7 @@ pub mod BooksApart
 pub mod EntriesWritten
 pub mod EntriesBack
 pub mod JournalsBack
+pub mod JournalsWritten
 pub mod EntriesOnly
 pub mod JournalsOnly
 pub mod JournalsApart

@@ -1,5 +1,5 @@
 -- What holds of the entries of a journal that is made entry by entry.
-use Rattle.std.proofs.Common.{◌≡◌, ℕ, zero, suc, ◌+◌, ◌≤◌, ◌&&◌, Bool, true, false, cond, List, [], ◌∷◌, ◌++◌, length, slice_get, nat_le, nat_lt, Option, Some, None, option_and_then, refl, subst, sym, ◌∙◌, ap, arith, append-nil, append_assoc, length-append}
+use Rattle.std.proofs.Common.{◌≡◌, ℕ, zero, suc, ◌+◌, ◌≤◌, ◌&&◌, Bool, true, false, cond, List, [], ◌∷◌, ◌++◌, length, slice_get, nat_le, nat_lt, Option, Some, None, option_and_then, refl, subst, sym, ◌∙◌, ap, append-nil, append_assoc, length-append}
 use Rattle.std.specs.Option.{ForSome}
 use Rattle.std.proofs.lemmas.Bool.{and_parts, leb-true}
 use Rattle.std.proofs.lemmas.Option.{same_Some}
@@ -40,13 +40,13 @@ short_answer request (Some answer) h =
 -- what is added is short, and stands after the entries before it
 pub record IsLonger (j longer : JournalAtRest) (kept : Kept) : Type 0 where
   pub short : IsShort kept
-  pub is : longer ≡ record { number = j.number; settings = j.settings; entries = j.entries ++ kept ∷ [] }
+  pub is : longer ≡ record { number = j.number; settings = j.settings; rule = j.rule; entries = j.entries ++ kept ∷ [] }
 
 pub added_is_longer : (j longer : JournalAtRest) (request : List ℕ) (answer : Option (List ℕ)) → added j request answer ≡ Some longer → IsLonger j longer (record { request = request; answer = answer })
 unfolding added
 added_is_longer j longer request answer h = by_row (is_row j request answer) refl h
   where
-    by_row : (good : Bool) → is_row j request answer ≡ good → cond good (Some (record { number = j.number; settings = j.settings; entries = j.entries ++ record { request = request; answer = answer } ∷ [] })) None ≡ Some longer → IsLonger j longer (record { request = request; answer = answer })
+    by_row : (good : Bool) → is_row j request answer ≡ good → cond good (Some (record { number = j.number; settings = j.settings; rule = j.rule; entries = j.entries ++ record { request = request; answer = answer } ∷ [] })) None ≡ Some longer → IsLonger j longer (record { request = request; answer = answer })
     by_row true e h =
         let parts = and_parts (nat_lt (length j.entries) j.settings.cap) (is_own_request j.settings request && is_kept_answer request answer) e in
         let texts = and_parts (is_own_request j.settings request) (is_kept_answer request answer) parts.1 in
@@ -74,16 +74,16 @@ added_all_short j all (first ∷ entries) h (suc place) kept e =
     added_all_short next.0 all entries next.2 place kept e
 
 -- what is added all together stands after the entries before it
-pub added_all_is : (j all : JournalAtRest) (entries : List Kept) → added_all (Some j) entries ≡ Some all → all ≡ record { number = j.number; settings = j.settings; entries = j.entries ++ entries }
-added_all_is j all [] h = sym (same_Some j all h) ∙ ap (λ (entries : List Kept). record { number = j.number; settings = j.settings; entries = entries }) (sym (append-nil j.entries))
+pub added_all_is : (j all : JournalAtRest) (entries : List Kept) → added_all (Some j) entries ≡ Some all → all ≡ record { number = j.number; settings = j.settings; rule = j.rule; entries = j.entries ++ entries }
+added_all_is j all [] h = sym (same_Some j all h) ∙ ap (λ (entries : List Kept). record { number = j.number; settings = j.settings; rule = j.rule; entries = entries }) (sym (append-nil j.entries))
 added_all_is j all (kept ∷ entries) h =
     let next = first_added (added j kept.request kept.answer) all entries h in
     let longer : JournalAtRest = next.0 in
-    let others : all ≡ record { number = longer.number; settings = longer.settings; entries = longer.entries ++ entries } = added_all_is longer all entries next.2 in
-    let is : longer ≡ record { number = j.number; settings = j.settings; entries = j.entries ++ kept ∷ [] } = (added_is_longer j longer kept.request kept.answer next.1).is in
+    let others : all ≡ record { number = longer.number; settings = longer.settings; rule = longer.rule; entries = longer.entries ++ entries } = added_all_is longer all entries next.2 in
+    let is : longer ≡ record { number = j.number; settings = j.settings; rule = j.rule; entries = j.entries ++ kept ∷ [] } = (added_is_longer j longer kept.request kept.answer next.1).is in
     others
-    ∙ ap (λ (l : JournalAtRest). record { number = l.number; settings = l.settings; entries = l.entries ++ entries }) is
-    ∙ ap (λ (entries : List Kept). record { number = j.number; settings = j.settings; entries = entries }) (append_assoc j.entries (kept ∷ []) entries)
+    ∙ ap (λ (l : JournalAtRest). record { number = l.number; settings = l.settings; rule = l.rule; entries = l.entries ++ entries }) is
+    ∙ ap (λ (entries : List Kept). record { number = j.number; settings = j.settings; rule = j.rule; entries = entries }) (append_assoc j.entries (kept ∷ []) entries)
 
 -- a pharmacy that stops keeps its number, and as many entries
 pub entries_stopped : (j : Journal) → length (stopped j).entries ≡ length j.entries

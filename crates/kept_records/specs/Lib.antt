@@ -8,4 +8,5 @@ pub mod Rows
 pub mod Books
 pub mod BookLaws
 pub mod Entries
+pub mod Rules
 pub mod Journals

@@ -9,15 +9,19 @@ use Rattle.codec.specs.Codecs.{Codec}
 abbrev pub version_codec : Codec ℕ
 version_codec = record { text = λ version. version ∷ []; at = u8_at; Fits = λ version. ⊤ }
 
--- the versions that are read
+-- the versions of a book that are read
 abbrev pub is_version : ℕ → Bool
 is_version version = (version == 1) || (version == 2)
+
+-- those of a journal: the third has the rule of retries
+abbrev pub is_journal_version : ℕ → Bool
+is_journal_version version = (version == 1) || ((version == 2) || (version == 3))
 
 -- a readable request of one transaction
 abbrev pub has_one : Option Request → Bool
 has_one None = false
 has_one (Some header) = header.count == 1
 
--- version 1 has one transaction a request, version 2 as many as can be read
+-- version 1 has one transaction a request, the others as many as can be read
 abbrev pub fits_version : ℕ → List ℕ → Bool
 fits_version version request = if version == 1 then has_one (readable_header request) else true

@@ -16,11 +16,12 @@ pub enum RecordFault {
     /// There are fewer bytes than a head has: 9 for a journal, 29 for a book.
     #[error("shorter than the head of a record, 9 bytes of a journal and 29 of a book")]
     Short,
-    /// The version is neither 1 nor 2.
-    #[error("the version of a record is 1 or 2")]
+    /// The version is none that is read: 1, 2, or, of a journal that goes by another rule of retries than
+    /// that of its settings, 3.
+    #[error("the version of a record is none that is read")]
     Version,
     /// The record at this place is cut off, is beyond the cap, or has a part that cannot stand there; or
-    /// bytes follow the last record.
+    /// bytes follow the last record. At 9 of a journal of version 3 this is its rule of retries.
     #[error("the record at byte {0} is bad")]
     BadRecord(usize),
     /// The entry at this place of a journal is good, but has not the next number.

@@ -4,11 +4,13 @@ ghost use Rattle.std.specs.Prelude.{◌≡◌, ◌<◌, length, Ok, Err, Some, N
 ghost use Rattle.std.specs.Option.{option_copied};
 ghost use Rattle.pharmacy_journal.specs.Resting.{added};
 ghost use Rattle.kept_records.specs.Faults.{RefusesAs, RefusesAt, ended};
-ghost use Rattle.kept_records.specs.Journals.{head_in, entry_in, entries_in, journal_in, IsKept};
+ghost use Rattle.kept_records.specs.Journals.{head_in, ruled_in, entry_in, entries_in, journal_in, IsKept};
+ghost use Rattle.kept_records.specs.Versions.{is_journal_version};
 
 use crate::fault::RecordFault;
 use crate::journal_laws::journal_is_its_text;
 use crate::journal_parts::{JournalHead, take_entry, take_head};
+use crate::rules::{RULED_VERSION, read_rule};
 use crate::versions::judge_version;
 use pharmacy_journal::{JournalAtRest, PharmacySettings, RowFault};
 use std::alloc::Global;
@@ -16,20 +18,20 @@ use std::alloc::Global;
 /// The two bytes that begin a journal, as a number.
 pub(crate) const MARK: u16 = 0x504a;
 
-/// The version of which each request has exactly one transaction.
-const SINGLE_VERSION: u8 = 1;
-
-/// The version that is written.
-pub(crate) const VERSION: u8 = 2;
-
 /// Reads the journal of the pharmacy of this number, which is all of the bytes. The number is not zero, and
 /// the settings name a switch.
 ///
-/// Version 2 is read, and version 1 where every request has exactly one transaction.
+/// Version 2 is read, version 1 where every request has exactly one transaction, and version 3 where the
+/// pharmacy goes by another rule of retries than that of its settings. In version 3 the rule stands after
+/// the 9 bytes of the head: after how many ticks an entry is sent again (4 bytes) and how often to one
+/// switch (4 bytes), each 1 to 1,000, how many switches there are (2 bytes), 1 to 4,096, and the number of
+/// each (2 bytes). Which switches there are in the network is not asked. A journal of another version goes
+/// by the rule of its settings.
 ///
 /// # Errors
 /// The first cause that stands decides: `Short` for fewer than 9 bytes, `NotABook` for other bytes than
-/// `PJ` or another pharmacy, `Version`, and then the first faulty entry: `BadRecord` where it is cut off,
+/// `PJ` or another pharmacy, `Version`, `BadRecord` at 9 where in version 3 the rule is cut off, has other
+/// numbers or is that of the settings, and then the first faulty entry: `BadRecord` where it is cut off,
 /// a text has more than 32,768 bytes, the flag is neither 0 nor 1, or it cannot be added (it is beyond the
 /// cap, the request is not readable or of another provider, or the answer is none to it), and
 /// `NumberOrder` where it is good and has not the next number. Bytes after the last entry are
@@ -65,7 +67,8 @@ fn read_parts(
     ensures fault { RefusesAs (journal_in number settings bytes.now) result }
 {
     let (head, rest) = asked_head(bytes, number)?;
-    let journal = JournalAtRest::new(alloc, number, settings);
+    let journal = JournalAtRest::new(alloc, number, settings)?;
+    let (journal, rest) = ruled(alloc, head.version, journal, rest)?;
     read_entries(alloc, journal, head, bytes.len(), rest)
 }
 
@@ -81,10 +84,36 @@ fn asked_head(bytes: &[u8], number: u16) -> Result<(JournalHead, &[u8]), RecordF
     if head.mark != MARK || head.number != number {
         return Err(RecordFault::NotABook);
     }
-    if head.version != SINGLE_VERSION && head.version != VERSION {
+    if !is_known(head.version) {
         return Err(RecordFault::Version);
     }
     Ok((head, rest))
+}
+
+/// Whether journals of this version are read.
+fn is_known(version: u8) -> bool
+    ensures { result ≡ is_journal_version version }
+{
+    version == 1 || version == 2 || version == 3
+}
+
+/// The journal of this version, with the rule of retries that stands at the front where there is one, and
+/// what follows it.
+#[tactic(auto, unfolding(crate::specs::Journals::ruled_in))]
+fn ruled(
+    alloc: Global,
+    version: u8,
+    journal: JournalAtRest,
+    bytes: &[u8],
+) -> Result<(JournalAtRest, &[u8]), RecordFault>
+    ensures ok { IfOk result (λ read. ruled_in version journal bytes.now ≡ Ok (read.0, read.1.now)) }
+    ensures fault { RefusesAs (ruled_in version journal bytes.now) result }
+{
+    if version != RULED_VERSION {
+        return Ok((journal, bytes));
+    }
+    let (rule, rest) = read_rule(alloc, journal.settings(), bytes)?;
+    Ok((journal.with_rule(rule), rest))
 }
 
 /// The journal with as many entries more as the head says, which are all of these last bytes of `total`.

@@ -7,50 +7,70 @@ ghost use Rattle.envelope.specs.Envelope.{longest_payload};
 ghost use Rattle.pharmacy_journal.specs.Entries.{kept_seen};
 ghost use Rattle.kept_records.specs.Heads.{journal_head_codec};
 ghost use Rattle.kept_records.specs.Entries.{answer_codec, entry_codec, entries_text};
-ghost use Rattle.kept_records.specs.Journals.{head_of, journal_text, journal_in, ReadsAs};
+ghost use Rattle.kept_records.specs.Journals.{head_of, kept_text, journal_in, ReadsAs};
 
 use crate::journal_laws::journal_reads_back;
-use crate::journal_reading::{MARK, VERSION};
+use crate::journal_reading::MARK;
+use crate::rules::{put_rule_of, version_by};
 use crate::texts::put_text;
 use codec::{put_u8, put_u16, put_u32, put_u64};
 use pharmacy_journal::{JournalAtRest, KeptEntry, Pharmacy};
 use std::alloc::{AllocError, Global};
 
-/// The text of a journal, of version 2. It is read as this journal.
+/// The text of a journal: of version 2 where it goes by the rule of retries of its settings, and of version 3,
+/// which has the rule, where it goes by another. It is read as this journal. A rule of more than 4,096 switches,
+/// which no pharmacy takes by a call, is refused as memory would be, but where it is that of the settings.
 #[tactic(auto, unfolding(crate::specs::Journals::journal_text))]
 pub fn write_journal(alloc: Global, journal: &JournalAtRest) -> Result<Vec<u8>, AllocError>
-    ensures text { IfOk result (λ text. text.items ≡ journal_text 2 journal.now) }
+    ensures text { IfOk result (λ text. text.items ≡ kept_text journal.now) }
     ensures read { IfOk result (λ text. ReadsAs text.items journal.now) }
 {
     journal_reads_back();
+    let rule = journal.rule();
+    let version = version_by(journal.settings(), rule);
     let mut text = Vec::new(alloc);
-    put_head(&mut text, journal.number(), journal.entries() as u32)?;
+    put_head(
+        &mut text,
+        version,
+        journal.number(),
+        journal.entries() as u32,
+    )?;
+    put_rule_of(&mut text, version, rule)?;
     put_resting(&mut text, journal)?;
     Ok(text)
 }
 
-/// The text of the journal that the pharmacy would leave if it stopped, of version 2. It is read as that
-/// journal. The pharmacy goes on.
+/// The text of the journal that the pharmacy would leave if it stopped, of version 2 or 3 as its rule of retries
+/// has it. It is read as that journal. The pharmacy goes on. A rule of more than 4,096 switches is refused as for
+/// `write_journal`.
 #[tactic(auto, unfolding(crate::specs::Journals::journal_text, claim_model::specs::Journal::stopped))]
 pub fn save_journal(alloc: Global, pharmacy: &Pharmacy) -> Result<Vec<u8>, AllocError>
-    ensures text { IfOk result (λ text. text.items ≡ journal_text 2 (stopped pharmacy.now)) }
+    ensures text { IfOk result (λ text. text.items ≡ kept_text (stopped pharmacy.now)) }
     ensures read { IfOk result (λ text. journal_in pharmacy.now.number pharmacy.now.settings text.items
         ≡ Ok (stopped pharmacy.now)) }
 {
     journal_reads_back();
+    let rule = pharmacy.rule();
+    let version = version_by(pharmacy.settings(), rule);
     let mut text = Vec::new(alloc);
-    put_head(&mut text, pharmacy.number(), pharmacy.entries() as u32)?;
+    put_head(
+        &mut text,
+        version,
+        pharmacy.number(),
+        pharmacy.entries() as u32,
+    )?;
+    put_rule_of(&mut text, version, rule)?;
     put_running(&mut text, pharmacy)?;
     Ok(text)
 }
 
-/// Puts the head of a journal with this many entries.
+/// Puts the head of a journal of this version with this many entries.
 #[tactic(auto, unfolding(crate::specs::Heads::journal_head_codec))]
-fn put_head(text: &mut Vec<u8>, number: u16, count: u32) -> Result<(), AllocError>
-    ensures { OnOk result (text.new.items ≡ text.old.items ++ journal_head_codec.text (head_of 2 number count)) }
+fn put_head(text: &mut Vec<u8>, version: u8, number: u16, count: u32) -> Result<(), AllocError>
+    ensures { OnOk result (text.new.items ≡ text.old.items ++ journal_head_codec.text (head_of version number count)) }
 {
     put_u16(text, MARK)?;
-    put_u8(text, VERSION)?;
+    put_u8(text, version)?;
     put_u16(text, number)?;
     put_u32(text, count)
 }

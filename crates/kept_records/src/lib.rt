@@ -14,6 +14,7 @@ mod journal_reading;
 mod journal_writing;
 mod products;
 mod rows;
+mod rules;
 mod texts;
 mod versions;
 

@@ -6,7 +6,6 @@ use Rattle.std.specs.BTreeMap.{is_at}
 use Rattle.std.specs.Ordering.{is_eq, nat_cmp}
 use Rattle.std.proofs.lemmas.Bool.Decides.{nat_tests}
 use Rattle.std.proofs.lemmas.List.{length_push}
-use Rattle.bin_routes.specs.Table.{routes_of}
 use Rattle.claim_model.specs.Bytes.{bytes_with}
 use Rattle.claim_model.specs.Context.{Context}
 use Rattle.claim_model.specs.Journal.{Journal, JournalAtRest}
@@ -38,6 +37,7 @@ use Rattle.log_audit.specs.declared.judging.LegalRun.{LegalRun}
 use Rattle.log_audit.specs.Standing.{IsLeftBy, StandsBy, EachStands, AreByNumber, Enters, AreNumbered, IsInOrder, AreStanding}
 use Rattle.log_audit.specs.StandingSeen.{nodes_seen}
 use Rattle.log_audit.specs.declared.judging.standing.ByNumber.{ByNumber}
+use Rattle.world_setup.specs.Taken.{routes_in}
 
 -- one log
 
@@ -49,7 +49,7 @@ makes_fits ctx s (r ∷ more) m =
 -- a node that makes its log is what the log leaves
 pub left_whole : (s : WorldSettings) (log : NodeLog) (after : AnyNode) → is_there (settings_seen s) log.node ≡ true → IsMade s log.node log.calls (Ok after) → IsLeftBy s log after
 left_whole s log after there m =
-    let ctx = bytes_with (routes_of s.routes.items) in
+    let ctx = bytes_with (routes_in s) in
     record {
       fits = record { there = there; fits = subst (λ (o : Option AnyNode). FitsThere ctx o log.calls) (sym m.opens) (makes_fits ctx m.before log.calls m.made.0) };
       left = ap (λ (o : Option AnyNode). option_map (λ n. replay ctx n log.calls) o) m.opens ∙ ap (λ (n : AnyNode). Some n) (sym m.made.1);
@@ -125,7 +125,7 @@ taken_all {A} found left place count list le ge t =
 
 -- all nodes
 
-pub standing_by : {E : Type 0} (s : WorldSettings) (logs : List NodeLog) (found : ByNumber) (r : Result (Option KnownParts) E) → AllFit (bytes_with (routes_of s.routes.items)) (settings_seen s) logs → AreByNumber s logs found
+pub standing_by : {E : Type 0} (s : WorldSettings) (logs : List NodeLog) (found : ByNumber) (r : Result (Option KnownParts) E) → AllFit (bytes_with (routes_in s)) (settings_seen s) logs → AreByNumber s logs found
     → IfOk r (λ o. IfSome o (λ nodes. IsInOrder s found (nodes_seen nodes))) → IfOk r (λ o. IfSome o (λ nodes. AreStanding s logs (nodes_seen nodes)))
 standing_by s logs found (Err fault) fit by order = tt
 standing_by s logs found (Ok None) fit by order = tt
@@ -145,11 +145,11 @@ stands_at s logs place log node lt is left = record { place = place; log = log_s
 -- the world of the run
 
 -- a node that stands by its log is the world's
-leads : (s : WorldSettings) (logs : List NodeLog) (es : List Event) (name : Node) (node : AnyNode) → IsMerged s logs es → StandsBy s logs name node → node_at (run (bytes_with (routes_of s.routes.items)) (opening (settings_seen s)) es) name ≡ Some node
+leads : (s : WorldSettings) (logs : List NodeLog) (es : List Event) (name : Node) (node : AnyNode) → IsMerged s logs es → StandsBy s logs name node → node_at (run (bytes_with (routes_in s)) (opening (settings_seen s)) es) name ≡ Some node
 leads s logs es name node m h = subst (λ (x : Node). node_at (run ctx first es) x ≡ Some node) h.names (by (node_at first h.log.node) refl)
   where
     ctx : Context
-    ctx = bytes_with (routes_of s.routes.items)
+    ctx = bytes_with (routes_in s)
 
     first : World
     first = opening (settings_seen s)
@@ -207,11 +207,11 @@ one_payer (Some p) q e = let same : OfPayer p ≡ OfPayer q = cc in let is : p �
 
 -- nodes that stand by their logs, and the packets of the run, are the world after the run
 pub standing_world : (s : WorldSettings) (logs : List NodeLog) (es : List Event) (nodes : NodeLists) (packets : List Packet) → IsMerged s logs es → AreStanding s logs nodes → packets ≡ packets_after s es
-    → world_of nodes packets ≡ run (bytes_with (routes_of s.routes.items)) (opening (settings_seen s)) es
+    → world_of nodes packets ≡ run (bytes_with (routes_in s)) (opening (settings_seen s)) es
 standing_world s logs es nodes packets m st posts = λ i. record { pharmacies = pharmacies i; switches = switches i; payers = payers i; packets = posts i }
   where
     ctx : Context
-    ctx = bytes_with (routes_of s.routes.items)
+    ctx = bytes_with (routes_in s)
 
     first : World
     first = opening (settings_seen s)

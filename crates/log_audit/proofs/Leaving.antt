@@ -1,6 +1,6 @@
 -- The table of the world that a run leaves.
 use Rattle.std.proofs.Common.{◌≡◌, ℕ, false, List, refl, ap, ◌∙◌}
-use Rattle.bin_routes.specs.Table.{RouteMaps, routes_of}
+use Rattle.bin_routes.specs.Table.{RouteMaps}
 use Rattle.claim_model.specs.Bytes.{bytes_with}
 use Rattle.claim_model.specs.Settings.{opening}
 use Rattle.claim_model.specs.World.{World, Event, run}
@@ -16,9 +16,10 @@ use Rattle.log_audit.specs.declared.tables.table.Table.TheVariants.{Payments, En
 use Rattle.log_audit.specs.Judged.{left_by}
 use Rattle.log_audit.specs.Tabled.{csv_after, run_csv, tells_senders}
 use Rattle.log_audit.specs.Telling.{run_ledger, run_members}
+use Rattle.world_setup.specs.Taken.{routes_in}
 
 -- of a world that events led to from the opening of these settings, over its routes, with the senders of its packets
-pub csv_is : (s : WorldSettings) (first last : WorldParts) (events : List Event) (senders : List ℕ) (table : Table) → first ≡ record { routes = routes_of s.routes.items; world = opening (settings_seen s) }
+pub csv_is : (s : WorldSettings) (first last : WorldParts) (events : List Event) (senders : List ℕ) (table : Table) → first ≡ record { routes = routes_in s; world = opening (settings_seen s) }
     → last.routes ≡ first.routes → last.world ≡ run (context_of first) first.world events → senders ≡ senders_from (context_of first) first.world 1 events
     → table_csv (table_rows (context_of last) last.world senders) table ≡ run_csv s events table
 unfolding run_csv
@@ -29,7 +30,7 @@ csv_is s first last events senders table opened routes made noted =
     ∙ ap (λ (parts : WorldParts). csv_after (context_of parts) parts.world events table) opened))
 
 -- the same of its counts
-pub ledger_is : (s : WorldSettings) (first last : WorldParts) (events : List Event) → first ≡ record { routes = routes_of s.routes.items; world = opening (settings_seen s) }
+pub ledger_is : (s : WorldSettings) (first last : WorldParts) (events : List Event) → first ≡ record { routes = routes_in s; world = opening (settings_seen s) }
     → last.routes ≡ first.routes → last.world ≡ run (context_of first) first.world events → ledger_text (context_of last) last.world ≡ run_ledger s events
 unfolding run_ledger
 ledger_is s first last events opened routes made =
@@ -38,7 +39,7 @@ ledger_is s first last events opened routes made =
     ∙ ap (λ (parts : WorldParts). ledger_text (context_of parts) (run (context_of parts) parts.world events)) opened)
 
 -- and of all tables as members
-pub members_are : (s : WorldSettings) (first last : WorldParts) (events : List Event) (senders : List ℕ) → first ≡ record { routes = routes_of s.routes.items; world = opening (settings_seen s) }
+pub members_are : (s : WorldSettings) (first last : WorldParts) (events : List Event) (senders : List ℕ) → first ≡ record { routes = routes_in s; world = opening (settings_seen s) }
     → last.routes ≡ first.routes → last.world ≡ run (context_of first) first.world events → senders ≡ senders_from (context_of first) first.world 1 events
     → table_members (table_rows (context_of last) last.world senders) Packets ≡ run_members s events
 unfolding run_members
@@ -67,5 +68,5 @@ pub table_left : (s : WorldSettings) (events : List Event) (w : WorldParts) (sen
 unfolding run_csv
 table_left s events w senders table none is =
     let first = opening (settings_seen s) in
-    let ctx = bytes_with (routes_of s.routes.items) in
+    let ctx = bytes_with (routes_in s) in
     ap (λ (x : WorldParts). table_csv (table_rows (context_of x) x.world senders) table) is ∙ same_table ctx (run ctx first events) senders (senders_from ctx first 1 events) table none

@@ -1,6 +1,5 @@
 -- The lines of the first kind of reason of which there is one.
 use Rattle.std.proofs.Common.{◌≡◌, ◌≢◌, ℕ, true, false, List, [], ◌∷◌, map, refl, sym, ap, ◌∙◌}
-use Rattle.bin_routes.specs.Table.{routes_of}
 use Rattle.claim_model.specs.Bytes.{bytes_with}
 use Rattle.claim_model.specs.Logs.{NodeLog}
 use Rattle.claim_model.specs.Settings.{is_empty}
@@ -13,6 +12,7 @@ use Rattle.log_audit.specs.Waits.{Progress, waiting_lines, IsWaitingText}
 use Rattle.log_audit.specs.Reasons.{or_else, reasons, IsReasons}
 use Rattle.log_audit.specs.declared.sentences.Manner.{Manner}
 use Rattle.log_audit.proofs.Telling.{or_else_is, or_else_first}
+use Rattle.world_setup.specs.Taken.{routes_in}
 
 -- logs of which no call was made
 abbrev none_made : List NodeLog → List Progress
@@ -38,14 +38,14 @@ unfolding reasons
 missing_is_why s logs manner text is some = record {
   made = none_made logs;
   of_logs = of_these logs;
-  is = or_else_first manner text (missing_lines (settings_seen s) logs) (or_else (wrong_lines (bytes_with (routes_of s.routes.items)) (settings_seen s) logs) (waiting_lines (bytes_with (routes_of s.routes.items)) (none_made logs))) is some;
+  is = or_else_first manner text (missing_lines (settings_seen s) logs) (or_else (wrong_lines (bytes_with (routes_in s)) (settings_seen s) logs) (waiting_lines (bytes_with (routes_in s)) (none_made logs))) is some;
 }
 
 pub wrong_is_why : (s : WorldSettings) (logs : List NodeLog) (manner : Manner) (missing text : List ℕ) → missing ≡ told_lines manner (missing_lines (settings_seen s) logs) → missing ≡ []
-    → text ≡ told_lines manner (wrong_lines (bytes_with (routes_of s.routes.items)) (settings_seen s) logs) → text ≢ [] → IsReasons s logs manner text
+    → text ≡ told_lines manner (wrong_lines (bytes_with (routes_in s)) (settings_seen s) logs) → text ≢ [] → IsReasons s logs manner text
 unfolding reasons
 wrong_is_why s logs manner missing text none empty is some =
-    let ctx = bytes_with (routes_of s.routes.items) in
+    let ctx = bytes_with (routes_in s) in
     let waits = waiting_lines ctx (none_made logs) in
     record {
       made = none_made logs;
@@ -55,11 +55,11 @@ wrong_is_why s logs manner missing text none empty is some =
     }
 
 pub waiting_is_why : (s : WorldSettings) (logs : List NodeLog) (manner : Manner) (missing wrong text : List ℕ) → missing ≡ told_lines manner (missing_lines (settings_seen s) logs) → missing ≡ []
-    → wrong ≡ told_lines manner (wrong_lines (bytes_with (routes_of s.routes.items)) (settings_seen s) logs) → wrong ≡ [] → IsWaitingText (bytes_with (routes_of s.routes.items)) logs manner text
+    → wrong ≡ told_lines manner (wrong_lines (bytes_with (routes_in s)) (settings_seen s) logs) → wrong ≡ [] → IsWaitingText (bytes_with (routes_in s)) logs manner text
     → IsReasons s logs manner text
 unfolding reasons
 waiting_is_why s logs manner missing wrong text none empty fits nothing waiting =
-    let ctx = bytes_with (routes_of s.routes.items) in
+    let ctx = bytes_with (routes_in s) in
     let waits = waiting_lines ctx waiting.made in
     record {
       made = waiting.made;

@@ -2,7 +2,7 @@
 use Rattle.std.specs.Prelude.{ℕ, ◌+◌, ◌-◌, ◌^◌, Bool, true, false, cond, min, nat_le, List, [], ◌∷◌, ◌++◌, length, slice_index, codes, Option, Some, None, Result, Ok, Err}
 use Rattle.claim_model.specs.Context.{Context}
 use Rattle.claim_model.specs.Settings.{opening}
-use Rattle.claim_model.specs.Node.{Call, Submit, Tick, Take, Stop, Start, Reprice, Adjudicate}
+use Rattle.claim_model.specs.Node.{Call, Submit, Tick, Take, Stop, Start, Revise, Adjudicate}
 use Rattle.claim_model.specs.Nodes.{AnyNode, node_at}
 use Rattle.claim_model.specs.Logs.{Logged, NodeLog}
 use Rattle.world_setup.specs.Seen.{settings_seen}
@@ -41,7 +41,7 @@ ticked ticks Tick = min (ticks + 1) (2 ^ 64 - 1)
 ticked ticks (Take from bytes) = ticks
 ticked ticks Stop = ticks
 ticked ticks Start = ticks
-ticked ticks (Reprice change) = ticks
+ticked ticks (Revise change) = ticks
 ticked ticks (Adjudicate from bytes advice) = ticks
 
 -- the count of ticks at a submission
@@ -51,7 +51,7 @@ submitted ticks Tick = []
 submitted ticks (Take from bytes) = []
 submitted ticks Stop = []
 submitted ticks Start = []
-submitted ticks (Reprice change) = []
+submitted ticks (Revise change) = []
 submitted ticks (Adjudicate from bytes advice) = []
 
 -- how many ticks came in all, from this many on

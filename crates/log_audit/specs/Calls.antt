@@ -5,7 +5,7 @@ use Rattle.bin_routes.specs.Table.{RouteMaps}
 use Rattle.claim_model.specs.Words.{SetPrice, SetTerms}
 use Rattle.claim_model.specs.Bytes.{bytes_with}
 use Rattle.claim_model.specs.Context.{Context}
-use Rattle.claim_model.specs.Node.{Node, Call, Submit, Tick, Take, Stop, Start, Reprice, Adjudicate}
+use Rattle.claim_model.specs.Node.{Node, Call, Submit, Tick, Take, Stop, Start, Revise, OfPlan, OfRule, Adjudicate}
 use Rattle.kept_logs.specs.Stamps.{Stamped, KeptLog}
 use Rattle.kept_logs.specs.Logs.{kept_in}
 use Rattle.settings_digest.specs.Digests.{digest_under}
@@ -24,8 +24,9 @@ call_word Tick = codes "tick"
 call_word (Take from bytes) = codes "packet"
 call_word Stop = codes "stop"
 call_word Start = codes "start"
-call_word (Reprice (SetPrice product price)) = codes "price"
-call_word (Reprice (SetTerms fee copay)) = codes "terms"
+call_word (Revise (OfPlan (SetPrice product price))) = codes "price"
+call_word (Revise (OfPlan (SetTerms fee copay))) = codes "terms"
+call_word (Revise (OfRule rule)) = codes "retry"
 call_word (Adjudicate from bytes advice) = codes "adjudication"
 
 -- how many submissions a call is
@@ -35,7 +36,7 @@ submissions_in Tick = 0
 submissions_in (Take from bytes) = 0
 submissions_in Stop = 0
 submissions_in Start = 0
-submissions_in (Reprice change) = 0
+submissions_in (Revise change) = 0
 submissions_in (Adjudicate from bytes advice) = 0
 
 abbrev pub no_load : Load
@@ -48,7 +49,7 @@ call_load ctx node submissions Tick = no_load
 call_load ctx node submissions (Take from bytes) = load_of (ctx.read_envelope bytes)
 call_load ctx node submissions Stop = no_load
 call_load ctx node submissions Start = no_load
-call_load ctx node submissions (Reprice change) = no_load
+call_load ctx node submissions (Revise change) = no_load
 call_load ctx node submissions (Adjudicate from bytes advice) = load_of (ctx.read_envelope bytes)
 
 -- when a call was made; nothing, where the host did not say
@@ -66,7 +67,7 @@ sender_member Tick = nobody
 sender_member (Take from bytes) = node_member (codes "from") from
 sender_member Stop = nobody
 sender_member Start = nobody
-sender_member (Reprice change) = nobody
+sender_member (Revise change) = nobody
 sender_member (Adjudicate from bytes advice) = node_member (codes "from") from
 
 -- the row of a record with this load, which stands at this place of a node's log, from 1

@@ -2,8 +2,8 @@
 use Rattle.std.specs.Prelude.{ℕ, ◌+◌, List, [], ◌∷◌, ◌++◌}
 use Rattle.claim_model.specs.Words.{Change, SetPrice, SetTerms}
 use Rattle.claim_model.specs.Logs.{Logged, NodeLog}
-use Rattle.claim_model.specs.Node.{Node, Pharmacy, Switch, Payer, Call, Submit, Tick, Take, Stop, Start, Reprice, Adjudicate}
-use Rattle.claim_model.specs.World.{Event, Submission, Ticking, Delivery, Stopping, Starting, PlanChange, Adjudication}
+use Rattle.claim_model.specs.Node.{Node, Pharmacy, Switch, Payer, Call, Submit, Tick, Take, Stop, Start, Revise, OfPlan, OfRule, Adjudicate}
+use Rattle.claim_model.specs.World.{Event, Submission, Ticking, Delivery, Stopping, Starting, Revising, Adjudication}
 use Rattle.log_audit.specs.declared.plans.changes.Change.{Change as Kept}
 use Rattle.log_audit.specs.declared.plans.changes.To.{To}
 use Rattle.log_audit.specs.declared.plans.changes.To.TheVariants as to
@@ -29,7 +29,10 @@ event_change number (Delivery packet) = []
 event_change number (Stopping node) = []
 event_change number (Starting node) = []
 event_change number (Adjudication packet advice) = []
-event_change number (PlanChange payer change) = record { payer = payer; place = number; to = change } ∷ []
+event_change number (Revising (Payer payer) (OfPlan change)) = record { payer = payer; place = number; to = change } ∷ []
+event_change number (Revising (Payer payer) (OfRule rule)) = []
+event_change number (Revising (Pharmacy pharmacy) revision) = []
+event_change number (Revising (Switch switch) revision) = []
 
 -- those of events that are numbered from here on
 abbrev pub event_changes : ℕ → List Event → List Placed
@@ -44,7 +47,8 @@ call_change payer number (Take from bytes) = []
 call_change payer number Stop = []
 call_change payer number Start = []
 call_change payer number (Adjudicate from bytes advice) = []
-call_change payer number (Reprice change) = record { payer = payer; place = number; to = change } ∷ []
+call_change payer number (Revise (OfRule rule)) = []
+call_change payer number (Revise (OfPlan change)) = record { payer = payer; place = number; to = change } ∷ []
 
 abbrev pub call_changes : ℕ → ℕ → List Logged → List Placed
 call_changes payer number [] = []

@@ -1,6 +1,5 @@
 -- What logs are judged to be.
 use Rattle.std.specs.Prelude.{◌≡◌, Bool, true, false, List, map, IfSome}
-use Rattle.bin_routes.specs.Table.{routes_of}
 use Rattle.claim_model.specs.Bytes.{bytes_with}
 use Rattle.claim_model.specs.Settings.{opening}
 use Rattle.claim_model.specs.World.{Event, run}
@@ -14,11 +13,12 @@ use Rattle.log_audit.specs.declared.judging.Found.{Found}
 use Rattle.log_audit.specs.declared.judging.Found.TheVariants.{Run, NoRun as NoneFound}
 use Rattle.log_audit.specs.declared.judging.Verdict.{Verdict}
 use Rattle.log_audit.specs.declared.judging.Verdict.TheVariants.{Legal, NoRun}
+use Rattle.world_setup.specs.Taken.{routes_in}
 
 -- the world that events leave after the opening of these settings
 abbrev pub left_by : WorldSettings → List Event → WorldParts
 left_by s events =
-    record { routes = routes_of s.routes.items; world = run (bytes_with (routes_of s.routes.items)) (opening (settings_seen s)) events }
+    record { routes = routes_in s; world = run (bytes_with (routes_in s)) (opening (settings_seen s)) events }
 
 -- events are told where they are a legal interleaving of the logs, and none only where there is no such interleaving
 abbrev pub IsJudged : WorldSettings → List NodeLog → Verdict → Type 0

@@ -2,7 +2,7 @@
 -- have the same one.
 use Rattle.std.specs.Prelude.{◌≡◌, ⊤, ℕ, ◌+◌, ◌==◌, cond, nat_lt, Bool, true, false, bytes_eq, List, [], ◌∷◌, ◌++◌, length, map, Option, Some, None, Result, Ok, Err}
 use Rattle.std.specs.List.{list_any}
-use Rattle.claim_model.specs.Node.{Call, Submit, Tick, Take, Stop, Start, Reprice, Adjudicate}
+use Rattle.claim_model.specs.Node.{Call, Submit, Tick, Take, Stop, Start, Revise, Adjudicate}
 use Rattle.kept_logs.specs.Stamps.{Stamped}
 use Rattle.kept_logs.specs.Logs.{KeptReading, kept_in}
 use Rattle.kept_logs.specs.References.{Reference}
@@ -22,7 +22,7 @@ is_submission Tick = false
 is_submission (Take from bytes) = false
 is_submission Stop = false
 is_submission Start = false
-is_submission (Reprice change) = false
+is_submission (Revise change) = false
 is_submission (Adjudicate from bytes advice) = false
 
 -- how the call of this number, from 1, is called: no byte where it has no reference. Those before a log have the number 0

@@ -1,6 +1,5 @@
 -- Why logs are those of no legal run.
 use Rattle.std.specs.Prelude.{◌≡◌, ◌≢◌, ◌↔◌, false, ℕ, List, [], ◌∷◌, map}
-use Rattle.bin_routes.specs.Table.{routes_of}
 use Rattle.claim_model.specs.Bytes.{bytes_with}
 use Rattle.claim_model.specs.Context.{Context}
 use Rattle.claim_model.specs.Logs.{NodeLog}
@@ -12,6 +11,7 @@ use Rattle.log_audit.specs.Lacks.{missing_lines}
 use Rattle.log_audit.specs.Wrongs.{wrong_lines}
 use Rattle.log_audit.specs.Waits.{Progress, is_stuck, unordered, waiting_lines}
 use Rattle.log_audit.specs.declared.sentences.Manner.{Manner}
+use Rattle.world_setup.specs.Taken.{routes_in}
 
 -- these lines, or the others where there are none of these
 abbrev pub or_else : List (List ℕ) → List (List ℕ) → List (List ℕ)
@@ -27,7 +27,7 @@ reasons ctx s logs made = or_else (missing_lines s logs) (or_else (wrong_lines c
 pub record IsReasons (s : WorldSettings) (logs : List NodeLog) (manner : Manner) (text : List ℕ) : Type 0 where
   pub made : List Progress
   pub of_logs : map (λ (p : Progress). p.log) made ≡ logs
-  pub is : text ≡ told_lines manner (reasons (bytes_with (routes_of s.routes.items)) (settings_seen s) logs made)
+  pub is : text ≡ told_lines manner (reasons (bytes_with (routes_in s)) (settings_seen s) logs made)
 
 -- whatever calls were made, some line is told
 abbrev pub SomeReason : Type 0

@@ -2,7 +2,6 @@
 use Rattle.std.specs.Prelude.{◌≡◌, ◌⊎◌, ℕ, List, length, slice_get, Option, Some}
 use Rattle.std.specs.BTreeMap.{get}
 use Rattle.std.specs.Ordering.{nat_cmp}
-use Rattle.bin_routes.specs.Table.{routes_of}
 use Rattle.claim_model.specs.Bytes.{bytes_with}
 use Rattle.claim_model.specs.Logs.{NodeLog}
 use Rattle.claim_model.specs.Node.{Node, Pharmacy, Switch, Payer}
@@ -14,10 +13,11 @@ use Rattle.world_core.specs.NodeLists.{NodeLists}
 use Rattle.node_log.specs.Replayed.{replayed}
 use Rattle.run_merge.specs.Merged.{AllFit, FitsAlone}
 use Rattle.log_audit.specs.declared.judging.standing.ByNumber.{ByNumber}
+use Rattle.world_setup.specs.Taken.{routes_in}
 
 -- a log fits its node, which is this one after it
 pub record IsLeftBy (s : WorldSettings) (log : NodeLog) (node : AnyNode) : Type 0 where
-  pub fits : FitsAlone (bytes_with (routes_of s.routes.items)) (settings_seen s) log
+  pub fits : FitsAlone (bytes_with (routes_in s)) (settings_seen s) log
   pub left : replayed s log.node log.calls ≡ Some node
 
 -- one of these logs is of this name, and leaves this node
@@ -55,7 +55,7 @@ pub record IsInOrder (s : WorldSettings) (found : ByNumber) (nodes : NodeLists) 
 
 -- all nodes of the settings, each of which is what the log of its name leaves; and each log fits its node
 pub record AreStanding (s : WorldSettings) (logs : List NodeLog) (nodes : NodeLists) : Type 0 where
-  pub fit : AllFit (bytes_with (routes_of s.routes.items)) (settings_seen s) logs
+  pub fit : AllFit (bytes_with (routes_in s)) (settings_seen s) logs
   pub pharmacies : EachStands s logs Pharmacy OfPharmacy (numbered nodes.pharmacies)
   pub switches : EachStands s logs Switch OfSwitch (numbered nodes.switches)
   pub payers : EachStands s logs Payer OfPayer (numbered nodes.payers)

@@ -2,7 +2,6 @@
 use Rattle.std.specs.Prelude.{◌≡◌, ◌==◌, ℕ, Bool, true, false, cond, List, [], ◌∷◌, ◌++◌, length, map, slice_index, codes, Ok}
 use Rattle.std.specs.List.{list_any}
 use Rattle.std.specs.Str.Lines.{lines}
-use Rattle.bin_routes.specs.Table.{routes_of}
 use Rattle.claim_model.specs.Context.{Context}
 use Rattle.claim_model.specs.Bytes.{bytes_with}
 use Rattle.claim_model.specs.Settings.{opening}
@@ -34,6 +33,7 @@ use Rattle.log_audit.specs.declared.reading.Audited.{Audited}
 use Rattle.log_audit.specs.declared.report.Form.{Form}
 use Rattle.log_audit.specs.declared.report.Form.TheVariants.{Lines, Json, Csv, Changes, Schedule}
 use Rattle.log_audit.specs.declared.tables.table.Table.TheVariants.{Packets}
+use Rattle.world_setup.specs.Taken.{routes_in}
 
 -- the line of a log: its node, how many calls it has, and how many bytes its torn end has
 abbrev pub log_line : NodeLog → ℕ → List ℕ
@@ -49,7 +49,7 @@ legal_line count = sentence (Words (codes "one legal run of ") ∷ Number count 
 
 -- the world that events leave after the opening of settings
 abbrev pub context_for : WorldSettings → Context
-context_for s = bytes_with (routes_of s.routes.items)
+context_for s = bytes_with (routes_in s)
 
 abbrev pub world_after : WorldSettings → List Event → World
 world_after s events = run (context_for s) (opening (settings_seen s)) events

@@ -4,7 +4,7 @@ use Rattle.std.specs.Cmp.Lexicographic.{pointwise}
 use Rattle.std.specs.List.{list_any, list_all}
 use Rattle.claim_model.specs.Context.{Context}
 use Rattle.claim_model.specs.Words.{Kind, Request, Response, Envelope, EnvelopeFault}
-use Rattle.claim_model.specs.Node.{Node, Sent, Call, Submit, Tick, Take, Stop, Start, Reprice, Adjudicate}
+use Rattle.claim_model.specs.Node.{Node, Sent, Call, Submit, Tick, Take, Stop, Start, Revise, Adjudicate}
 use Rattle.claim_model.specs.Nodes.{same_node}
 use Rattle.claim_model.specs.Logs.{Logged, NodeLog}
 use Rattle.log_audit.specs.Sentences.{Piece, Words, Number, Named, sentence, told_lines}
@@ -39,7 +39,7 @@ waits ps node Tick = false
 waits ps node (Take from bytes) = not (list_any (sent_before from node bytes) ps)
 waits ps node Stop = false
 waits ps node Start = false
-waits ps node (Reprice change) = false
+waits ps node (Revise change) = false
 waits ps node (Adjudicate from bytes advice) = not (list_any (sent_before from node bytes) ps)
 
 -- the next call of a log
@@ -92,7 +92,7 @@ wait_text ctx ps node (Take from bytes) = taken_text ctx ps node from bytes
 wait_text ctx ps node (Adjudicate from bytes advice) = taken_text ctx ps node from bytes
 wait_text ctx ps node Stop = codes "no event makes this call on such a node"
 wait_text ctx ps node Start = codes "no event makes this call on such a node"
-wait_text ctx ps node (Reprice change) = codes "no event makes this call on such a node"
+wait_text ctx ps node (Revise change) = codes "no event makes this call on such a node"
 
 -- the line on a call that waits
 unfoldable pub wait_line : Context → List Progress → Node → ℕ → Call → List ℕ

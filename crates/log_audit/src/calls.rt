@@ -143,6 +143,7 @@ fn submissions_in(call: &Call) -> u64
         | Call::Start
         | Call::Plan { .. }
         | Call::Terms { .. }
+        | Call::Retry { .. }
         | Call::Adjudicate { .. } => 0,
     }
 }
@@ -208,6 +209,7 @@ fn call_word(call: &Call) -> &'static [u8]
         Call::Start => b"start",
         Call::Plan { .. } => b"price",
         Call::Terms { .. } => b"terms",
+        Call::Retry { .. } => b"retry",
     }
 }
 
@@ -223,7 +225,8 @@ fn sender_field<'a>(call: &Call) -> Field<'a>
         | Call::Stop
         | Call::Start
         | Call::Plan { .. }
-        | Call::Terms { .. } => { Field::number_or_nothing(b"from", None) }
+        | Call::Terms { .. }
+        | Call::Retry { .. } => { Field::number_or_nothing(b"from", None) }
     }
 }
 
@@ -240,7 +243,12 @@ fn load_of(node: Node, submissions: u64, call: &Call) -> Carried
         },
         Call::Take { bytes, .. } => carried_in(bytes.as_slice()),
         Call::Adjudicate { bytes, .. } => carried_in(bytes.as_slice()),
-        Call::Tick | Call::Stop | Call::Start | Call::Plan { .. } | Call::Terms { .. } => Carried {
+        Call::Tick
+        | Call::Stop
+        | Call::Start
+        | Call::Plan { .. }
+        | Call::Terms { .. }
+        | Call::Retry { .. } => Carried {
             kind: b"",
             pharmacy: None,
             number: None,

@@ -8,7 +8,6 @@ pub(crate) mod walking;
 pub(crate) mod wrongs;
 
 ghost use Rattle.std.specs.Prelude.{◌≡◌, map, Some, IfOk};
-ghost use Rattle.bin_routes.specs.Table.{routes_of};
 ghost use Rattle.claim_model.specs.Settings.{opening};
 ghost use Rattle.world_setup.specs.Seen.{event_seen, settings_seen};
 ghost use Rattle.node_log.specs.LogSeen.{logs_seen};
@@ -16,6 +15,7 @@ ghost use Rattle.run_merge.specs.MergedRuns.{IsRunOf};
 ghost use Rattle.log_audit.specs.Judged.{IsFound, IsJudged, left_by};
 ghost use Rattle.log_audit.specs.Standing.{AreStanding};
 ghost use Rattle.log_audit.specs.StandingSeen.{nodes_seen};
+ghost use Rattle.world_setup.specs.Taken.{routes_in};
 
 use crate::judging::standing::nodes_left;
 use node_log::NodeLog;
@@ -149,7 +149,7 @@ fn standing_run(
 /// The opening world of the settings.
 fn opening_world(alloc: Global, settings: &CheckedSettings) -> Result<World, AllocError>
     ensures { IfOk result (λ w. w
-        ≡ record { routes = routes_of settings.now.routes.items; world = opening (settings_seen settings.now) }) }
+        ≡ record { routes = routes_in settings.now; world = opening (settings_seen settings.now) }) }
 {
     World::opening(alloc, settings.copy(alloc)?)
 }

@@ -1,5 +1,5 @@
 -- Settings of which nothing has not grown have grown.
-use Rattle.std.proofs.Common.{◌≡◌, ℕ, false, length, Option, Some, None, refl}
+use Rattle.std.proofs.Common.{◌≡◌, ℕ, false, length, Option, Some, None, refl, sym, ◌∙◌}
 use Rattle.std.specs.Option.{option_or}
 use Rattle.bin_routes.specs.Fault.{first_fault}
 use Rattle.bin_routes.specs.Key.{RouteKey}
@@ -11,6 +11,7 @@ use Rattle.log_growth.specs.declared.ungrown.Ungrown.{Ungrown}
 use Rattle.log_growth.proofs.NodesGrown.{nodes_grow}
 use Rattle.log_growth.proofs.RoutesGrown.{routes_widen, routes_widen_for, all_stay, rejects_left, under, routed}
 use Rattle.log_growth.proofs.RejectedRows.{still_open}
+use Rattle.log_growth.proofs.Among.{under_rows, more_switches}
 
 neither : (a b : Option Ungrown) → option_or a b ≡ None → (a ≡ None) × (b ≡ None)
 neither None b e = (refl, e)
@@ -33,7 +34,13 @@ grown_for old new before rows none =
     let p = neither (node_ungrown (settings_seen old) (settings_seen new)) (route_ungrown old.pharmacies.items old.routes.items new.routes.items) none in
     let n = nodes_grow (settings_seen old) (settings_seen new) p.0 in
     record {
-      widens = record { reading = refl; routes = λ number key payer who e. numbers_widen old new before rows p.1 number key payer (routes_widen_for (length new.payers.items) (settings_seen old) old.routes.items new.routes.items rows p.1 key payer who) e };
+      widens = record {
+        reading = refl;
+        switches = more_switches old new n.switches;
+        routes = λ number key payer who e.
+            under_rows new number key
+            ∙ numbers_widen old new before rows p.1 number key payer (routes_widen_for (length new.payers.items) (settings_seen old) old.routes.items new.routes.items rows p.1 key payer who) (sym (under_rows old number key) ∙ e);
+      };
       nodes = record { pharmacies = n.pharmacies; switches = n.switches; payers = n.payers };
     }
 
@@ -43,7 +50,13 @@ grown_all old new before rows none plainly =
     let p = neither (node_ungrown (settings_seen old) (settings_seen new)) (route_ungrown old.pharmacies.items old.routes.items new.routes.items) none in
     let n = nodes_grow (settings_seen old) (settings_seen new) p.0 in
     record {
-      widens = record { reading = refl; routes = λ number key payer e. numbers_widen old new before rows p.1 number key payer (routes_widen (length new.payers.items) old.pharmacies.items old.routes.items new.routes.items rows p.1 plainly key payer) e };
+      widens = record {
+        reading = refl;
+        switches = more_switches old new n.switches;
+        routes = λ number key payer e.
+            under_rows new number key
+            ∙ numbers_widen old new before rows p.1 number key payer (routes_widen (length new.payers.items) old.pharmacies.items old.routes.items new.routes.items rows p.1 plainly key payer) (sym (under_rows old number key) ∙ e);
+      };
       pharmacies = n.pharmacies;
       switches = n.switches;
       payers = n.payers;

@@ -4,6 +4,7 @@ mod TableRows
 mod RangedRows
 mod RoutesGrown
 mod RejectedRows
+mod Among
 mod GrownTo
 mod Moved
 mod Staying

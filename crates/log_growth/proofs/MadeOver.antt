@@ -7,7 +7,6 @@ use Rattle.claim_model.specs.Node.{Sent, Outcome, Done, Refused}
 use Rattle.claim_model.specs.Settings.{opening}
 use Rattle.claim_model.specs.Nodes.{AnyNode, node_step, node_at}
 use Rattle.claim_model.specs.Logs.{Logged, node_after, Makes}
-use Rattle.bin_routes.specs.Table.{routes_of}
 use Rattle.claim_model.specs.Bytes.{bytes_with}
 use Rattle.world_setup.specs.Seen.{settings_seen}
 use Rattle.world_setup.specs.declared.settings.WorldSettings.{WorldSettings}
@@ -24,7 +23,9 @@ use Rattle.settings_growth.specs.Growth.{with_cap}
 use Rattle.settings_growth.specs.GoingOver.{GoesOver}
 use Rattle.settings_growth.proofs.Replayed.{goes_over, goes_over_lasting}
 use Rattle.log_growth.specs.Compared.{reading_of}
+use Rattle.log_growth.proofs.Among.{more_switches}
 use Rattle.log_growth.specs.Made.{WasMade, WasMadeWithRoutes}
+use Rattle.world_setup.specs.Taken.{routes_in, routes_with}
 
 -- a log that is made breaks nowhere
 
@@ -47,7 +48,7 @@ same_reading : (a b : KeptReading) → ◌≡◌ {A = Result KeptReading LogFaul
 same_reading a b e = cc
 
 abbrev context_in : Document → Context
-context_in d = bytes_with (routes_of d.routes)
+context_in d = bytes_with (routes_with d.world d.routes)
 
 -- a log that goes over to the settings that the text spells
 record Goes (text : List ℕ) (log : KeptLog) : Type 0 where
@@ -60,7 +61,7 @@ record Goes (text : List ℕ) (log : KeptLog) : Type 0 where
 
 -- under the settings of the refusal the log is made
 
-made_under : (text : List ℕ) (log : KeptLog) (w : Goes text log) (t : WorldSettings) → Spells text t → (before : AnyNode) → node_at (opening (settings_seen t)) log.node ≡ Some before → Makes (bytes_with (routes_of t.routes.items)) before (bare_calls log.calls)
+made_under : (text : List ℕ) (log : KeptLog) (w : Goes text log) (t : WorldSettings) → Spells text t → (before : AnyNode) → node_at (opening (settings_seen t)) log.node ≡ Some before → Makes (bytes_with (routes_in t)) before (bare_calls log.calls)
 made_under text log w t s before opens =
     let d = same_document (document_seen w.after) (document_seen t) (sym w.spells.spelled ∙ s.spelled) in
     let g = w.over in
@@ -76,8 +77,8 @@ refuted text log place settings w spells r =
     let reads : kept_in digest bytes ≡ Ok (record { log = r.log; whole = r.whole }) = ap (λ (x : List ℕ). kept_in x bytes) (sym own) ∙ r.reads in
     let is : r.log ≡ log = ap (λ (k : KeptReading). k.log) (same_reading (record { log = r.log; whole = r.whole }) (record { log = log; whole = length bytes }) (sym reads ∙ w.back)) in
     let opens = ap (λ (l : KeptLog). node_at (opening (settings_seen settings)) l.node) (sym is) ∙ r.breaks.opens in
-    unbroken (bytes_with (routes_of settings.routes.items)) r.breaks.before (bare_calls log.calls) r.breaks.count (made_under text log w settings spells r.breaks.before opens)
-    (subst (λ (l : KeptLog). BreaksAt (bytes_with (routes_of settings.routes.items)) r.breaks.before (bare_calls l.calls) r.breaks.count) is r.breaks.breaks)
+    unbroken (bytes_with (routes_in settings)) r.breaks.before (bare_calls log.calls) r.breaks.count (made_under text log w settings spells r.breaks.before opens)
+    (subst (λ (l : KeptLog). BreaksAt (bytes_with (routes_in settings)) r.breaks.before (bare_calls l.calls) r.breaks.count) is r.breaks.breaks)
 
 pub never_refused : (text : List ℕ) (log : KeptLog) (place : ℕ) → WasMade text log → IsRefused text log.node None (kept_text (digest_in text) log) (NotMade place) → ⊥
 never_refused text log place w r =
@@ -86,5 +87,5 @@ never_refused text log place w r =
 
 pub never_refused_with_routes : (text : List ℕ) (log : KeptLog) (place : ℕ) → WasMadeWithRoutes text log → IsRefused text log.node None (kept_text (digest_in text) log) (NotMade place) → ⊥
 never_refused_with_routes text log place w r =
-    let over = goes_over_lasting (reading_of w.before) (reading_of w.after) (settings_seen w.before) (settings_seen w.after) log.node w.node (bare_calls log.calls) refl w.grows w.opens w.last w.stays w.makes in
+    let over = goes_over_lasting (reading_of w.before) (reading_of w.after) (settings_seen w.before) (settings_seen w.after) log.node w.node (bare_calls log.calls) refl (more_switches w.before w.after w.grows.switches) w.grows w.opens w.last w.stays w.makes in
     refuted text log place r.settings (record { before = w.before; after = w.after; spells = w.spells; node = w.node; over = over; back = w.back }) r.spells r.refused

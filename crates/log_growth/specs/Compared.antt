@@ -5,7 +5,7 @@ use Rattle.std.specs.List.{list_any, position_from}
 use Rattle.std.specs.Option.{option_or, option_map}
 use Rattle.bin_routes.specs.Providers.{Providers, have}
 use Rattle.bin_routes.specs.Row.{Row, leads, same_pcn}
-use Rattle.bin_routes.specs.Table.{routes_of, is_ranged}
+use Rattle.bin_routes.specs.Table.{is_ranged}
 use Rattle.claim_model.specs.Context.{Context}
 use Rattle.claim_model.specs.Bytes.{bytes_with}
 use Rattle.claim_model.specs.Journal.{PharmacySettings}
@@ -15,6 +15,7 @@ use Rattle.world_setup.specs.declared.settings.WorldSettings.{WorldSettings as O
 use Rattle.settings_growth.specs.Growth.{PharmacyGrows, PayerGrows, Extends, Grows, GrowsFor}
 use Rattle.log_growth.specs.declared.ungrown.Ungrown.{Ungrown}
 use Rattle.log_growth.specs.declared.ungrown.Ungrown.TheVariants as ungrown
+use Rattle.world_setup.specs.Taken.{routes_in}
 
 -- the same pharmacy, whose journal may have as many entries or more
 abbrev pub pharmacy_grows : PharmacySettings → PharmacySettings → Bool
@@ -148,7 +149,7 @@ has_new_range old new = list_any (λ row. is_new_range old row && list_any (has_
 
 -- how nodes of these settings read bytes
 abbrev pub reading_of : Opened → Context
-reading_of s = bytes_with (routes_of s.routes.items)
+reading_of s = bytes_with (routes_in s)
 
 -- settings grow to others
 abbrev pub GrowsTo : Opened → Opened → Type 0

@@ -15,7 +15,7 @@ use Rattle.message_words.specs.declared.part.PartKind.{PartKind}
 use Rattle.message_words.specs.declared.part.PartKind.TheVariants.{Mark}
 use Rattle.message_words.specs.Parts.{PartSeen, Cut}
 use Rattle.message_words.specs.Steps.{filled_part, head_parts, header_rows, width_of, at_first, begins_segment, part_size, within_behind, AreBody, AreTransmission, one_carried}
-use Rattle.message_words.specs.AtRest.{Told, Telling, told_before, body_parts, transmission_parts, stray_told, piece_told, head_told, taken_told, text_told, each_told, journal_rows, flagged_told, flag_told, entry_told, count_at, journal_told, book_rows, short_length, product_told, row_told, book_told}
+use Rattle.message_words.specs.AtRest.{Told, Telling, told_before, body_parts, transmission_parts, stray_told, piece_told, head_told, taken_told, text_told, each_told, journal_rows, switch_count, switch_told, rule_rows, rule_told, has_rule, ruled_told, flagged_told, flag_told, entry_told, count_at, journal_told, book_rows, short_length, product_told, row_told, book_told}
 use Rattle.message_words.specs.Added.{next_bytes, next_taken, some_part, left_of, told_with, Tells, TellsAll, AddsTransmission}
 use Rattle.message_words.proofs.Bytes.{either, front_length}
 
@@ -192,28 +192,35 @@ no_piece kind width t place =
     ap (λ (bs : List ℕ). told_before (filled_part kind place bs) [] (t (place + length {A = ℕ} (take width [])) (drop width []))) front
     ∙ ap (λ p. t p (drop width [])) here ∙ ap (t place) (drop_all width [] (omega arith))
 
-no_product : (t : Telling) (place : ℕ) → product_told t place [] ≡ t place []
+-- nothing is told of no bytes
+abbrev pub IsNothing : (Telling → Telling) → Type 0
+IsNothing one = (t : Telling) (place : ℕ) → one t place [] ≡ t place []
+
+pub no_switch : IsNothing switch_told
+no_switch t place = no_piece (Mark mark.Switch) 2 t place
+
+pub no_product : IsNothing product_told
 unfolding product_told
 no_product t place =
     no_piece (Mark mark.Length) 1 (piece_told (Mark mark.PlanProduct) 0 (piece_told (Mark mark.Price) 4 t)) place
     ∙ no_piece (Mark mark.PlanProduct) 0 (piece_told (Mark mark.Price) 4 t) place ∙ no_piece (Mark mark.Price) 4 t place
 
-no_products : (n : ℕ) (t : Telling) (place : ℕ) → each_told product_told n t place [] ≡ t place []
+none_more : (one : Telling → Telling) → IsNothing one → (n : ℕ) (t : Telling) (place : ℕ) → each_told one n t place [] ≡ t place []
 unfolding each_told
-no_products zero t place = refl
-no_products (suc n) t place = no_product (each_told product_told n t) place ∙ no_products n t place
+none_more one none zero t place = refl
+none_more one none (suc n) t place = none (each_told one n t) place ∙ none_more one none n t place
 
 no_bytes : (bs : List ℕ) → (length bs == 0) ≡ true → bs ≡ []
 no_bytes [] e = refl
 no_bytes (b ∷ bs) e = absurd (omega (arith, eqb-true (length (b ∷ bs)) 0 e))
 
--- no bytes are left for products
-pub products_end : (n : ℕ) (t : Telling) (c : Cut) (x : List Carried) (all : Told) (left : List ℕ) → left ≡ left_of c → (length left == 0) ≡ true → told_with c x (each_told product_told n t c.place (left_of c)) ≡ all
-    → told_with c x (t c.place (left_of c)) ≡ all
-products_end n t c x all left is empty before =
+-- no bytes are left for more
+pub each_end : (one : Telling → Telling) → IsNothing one → (n : ℕ) (t : Telling) (c : Cut) (x : List Carried) (all : Told) (left : List ℕ) → left ≡ left_of c → (length left == 0) ≡ true
+    → told_with c x (each_told one n t c.place (left_of c)) ≡ all → told_with c x (t c.place (left_of c)) ≡ all
+each_end one nothing n t c x all left is empty before =
     let none : left_of c ≡ [] = sym is ∙ no_bytes left empty in
-    ap (λ (bs : List ℕ). told_with c x (t c.place bs)) none ∙ ap (told_with c x) (sym (no_products n t c.place))
-    ∙ ap (λ (bs : List ℕ). told_with c x (each_told product_told n t c.place bs)) (sym none) ∙ before
+    ap (λ (bs : List ℕ). told_with c x (t c.place bs)) none ∙ ap (told_with c x) (sym (none_more one nothing n t c.place))
+    ∙ ap (λ (bs : List ℕ). told_with c x (each_told one n t c.place bs)) (sym none) ∙ before
 
 -- ---- entries, products and rows
 
@@ -253,12 +260,19 @@ row v w a b c d e x y z whole p q r s = λ t.
 
 -- ---- journals and books
 
+pub rule : (count : ℕ) (a b c : Cut) (x : List Carried) → count ≡ switch_count (left_of a) → Tells (head_told rule_rows) true a b x x → Tells (each_told switch_told count) true b c x x → Tells rule_told true a c x x
+unfolding rule_told
+rule count a b c x is p q = λ t.
+    q t ∙ p (each_told switch_told count t) ∙ ap (λ n. told_with a x (head_told rule_rows (each_told switch_told n t) a.place (left_of a))) is
+
 -- after a head
-pub journal : (count : ℕ) (a b c : Cut) (x y : List Carried) → count ≡ count_at 5 (left_of a) → Tells (head_told journal_rows) true a b x x → TellsAll (each_told entry_told count stray_told) b c x y → TellsAll journal_told a c x y
+pub journal : (count : ℕ) (ruled : Bool) (a b c d : Cut) (x y : List Carried) → count ≡ count_at 5 (left_of a) → ruled ≡ has_rule (left_of a) → Tells (head_told journal_rows) true a b x x
+    → Tells (ruled_told ruled) true b c x x → TellsAll (each_told entry_told count stray_told) c d x y → TellsAll journal_told a d x y
 unfolding journal_told
-journal count a b c x y is p q =
-    q ∙ p (each_told entry_told count stray_told)
-    ∙ ap (λ n. told_with a x (head_told journal_rows (each_told entry_told n stray_told) a.place (left_of a))) is
+journal count ruled a b c d x y is has p q r =
+    r ∙ q (each_told entry_told count stray_told) ∙ p (ruled_told ruled (each_told entry_told count stray_told))
+    ∙ ap (λ n. told_with a x (head_told journal_rows (ruled_told ruled (each_told entry_told n stray_told)) a.place (left_of a))) is
+    ∙ ap (λ w. told_with a x (head_told journal_rows (ruled_told w (each_told entry_told (count_at 5 (left_of a)) stray_told)) a.place (left_of a))) has
 
 pub book : (products rows : ℕ) (a b c d : Cut) (x y : List Carried) → products ≡ count_at 21 (left_of a) → rows ≡ count_at 25 (left_of a) → Tells (head_told book_rows) true a b x x
     → Tells (each_told product_told products) true b c x x → TellsAll (each_told row_told rows stray_told) c d x y → TellsAll book_told a d x y

@@ -66,6 +66,10 @@ marks_plain mark.Fee = refl
 marks_plain mark.Copay = refl
 marks_plain mark.Price = refl
 marks_plain mark.PlanProduct = refl
+marks_plain mark.Again = refl
+marks_plain mark.Tries = refl
+marks_plain mark.SwitchCount = refl
+marks_plain mark.Switch = refl
 
 abbrev are_plain : List Titles → Bool
 are_plain ts = list_all (λ t. list_all is_letter t.key) ts

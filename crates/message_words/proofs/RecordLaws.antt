@@ -1,5 +1,5 @@
 -- Records that read well.
-use Rattle.std.proofs.Common.{◌≡◌, ◌<◌, ◌≤◌, ℕ, zero, suc, ◌+◌, ◌-◌, Bool, true, false, ◌&&◌, ◌==◌, List, [], ◌∷◌, length, take, drop, get_or, slice_index, Option, Some, None, Result, Ok, Err, refl, sym, ap, subst, ◌∙◌, arith}
+use Rattle.std.proofs.Common.{◌≡◌, ◌<◌, ◌≤◌, ℕ, zero, suc, ◌+◌, ◌-◌, Bool, true, false, ◌&&◌, ◌==◌, List, [], ◌∷◌, length, take, drop, not, get_or, slice_index, Option, Some, None, Result, Ok, Err, refl, sym, ap, subst, ◌∙◌, arith}
 use Rattle.std.specs.Prelude.{if◌then◌else◌, nat_lt}
 use Rattle.std.specs.List.{AllByRecursion}
 use Rattle.std.specs.Int.{w16, from_be_bytes, to_be_bytes}
@@ -12,7 +12,7 @@ use Rattle.claim_profile.specs.Ruling.{answer_of}
 use Rattle.claim_profile.proofs.ReadableLemmas.{fault_refuses}
 use Rattle.claim_profile.proofs.RulingList.{framing_fails}
 use Rattle.claim_model.specs.Bytes.{answer_in}
-use Rattle.claim_model.specs.Journal.{JournalAtRest, PharmacySettings}
+use Rattle.claim_model.specs.Journal.{JournalAtRest, PharmacySettings, RetryRule, opening_rule, with_rule}
 use Rattle.claim_model.specs.Readable.{fits}
 use Rattle.claim_model.specs.Rows.{Book, BookSettings}
 use Rattle.claim_model.specs.Words.{Answer as Said, RequestHeader}
@@ -22,7 +22,7 @@ use Rattle.pharmacy_journal.specs.Resting.{added, is_kept_answer, is_row}
 use Rattle.payer_book.specs.Added as book
 use Rattle.kept_records.specs.declared.fault.RecordFault.{RecordFault}
 use Rattle.kept_records.specs.declared.fault.RecordFault.TheVariants.{Short, Version, BadRecord, NumberOrder, NotABook}
-use Rattle.kept_records.specs.Versions.{is_version, fits_version}
+use Rattle.kept_records.specs.Versions.{is_version, is_journal_version, fits_version}
 use Rattle.kept_records.specs.Faults.{◌>>=◌, some_or, when_or, each_in}
 use Rattle.kept_records.specs.Entries.{entry_codec}
 use Rattle.kept_records.specs.Heads.{journal_name, journal_head_codec, book_name, book_head_codec}
@@ -30,17 +30,18 @@ use Rattle.kept_records.specs.Books.{book_head_in, book_in, has_terms, is_head_o
 use Rattle.kept_records.specs.Plans.{is_next, listed}
 use Rattle.kept_records.specs.Products.{product_codec}
 use Rattle.kept_records.specs.Rows.{row_codec}
+use Rattle.kept_records.specs.Rules.{can_stand, rule_at, rule_codec, same_rule}
 use Rattle.std.specs.Result.{result_ok}
 use Rattle.plan_rules.specs.Terms.{Terms, repriced}
 use Rattle.payer_book.specs.Added.{KeptRow}
-use Rattle.kept_records.specs.Journals.{empty_journal, entries_in, entry_in, head_in, journal_in}
+use Rattle.kept_records.specs.Journals.{empty_journal, entries_in, entry_in, head_in, journal_in, ruled_in}
 use Rattle.kept_records.proofs.Loops.{all_read}
-use Rattle.message_words.specs.AtRest.{Telling, book_rows, book_told, count_at, each_told, entry_told, is_book, journal_rows, journal_told, product_told, record_told, row_told, stray_told}
+use Rattle.message_words.specs.AtRest.{Telling, book_rows, book_told, count_at, each_told, entry_told, has_rule, is_book, journal_rows, journal_told, product_told, record_told, row_told, rule_told, ruled_told, stray_told}
 use Rattle.message_words.specs.declared.layout.Form.TheVariants.{Request, Answer}
 use Rattle.message_words.specs.Steps.{head_parts}
 use Rattle.message_words.specs.Standing.{Stands}
 use Rattle.message_words.proofs.Framed.{both, head_stands}
-use Rattle.message_words.proofs.RecordParts.{Clean, HasBookHead, HasJournalHead, IsFaultless, IsFaultlessAnswer, book_head, entry_clean, journal_head, product_clean, row_clean}
+use Rattle.message_words.proofs.RecordParts.{Clean, HasBookHead, HasJournalHead, IsFaultless, IsFaultlessAnswer, book_head, entry_clean, journal_head, product_clean, row_clean, rule_clean}
 
 -- ---- what is well of a chain
 
@@ -146,7 +147,31 @@ entries_so : (version total left : ℕ) (j k : JournalAtRest) (bytes : List ℕ)
 unfolding entries_in
 entries_so version total left j k bytes e = each_so (entry_in version) entry_told (entry_so version) total left j bytes (k, []) stray_told (all_read total (each_in (entry_in version) total left j bytes) k e) (λ p. tt)
 
-head_clean : (place : ℕ) (bytes : List ℕ) → ((p : ℕ) → Clean (each_told entry_told (count_at 5 bytes) stray_told p (drop 9 bytes))) → Clean (journal_told place bytes)
+-- a rule that was taken
+taken_clean : (s : PharmacySettings) (bytes : List ℕ) (rule : RetryRule × List ℕ) (behind : Telling) → rule_at s bytes ≡ Ok rule → ((p : ℕ) → Clean (behind p rule.1)) → (p : ℕ) → Clean (rule_told behind p bytes)
+unfolding rule_at
+taken_clean s bytes rule behind e clean p =
+    let said = well (some_or (BadRecord 9) (rule_codec.at bytes)) _ rule e in
+    let standing = well (when_or (BadRecord 9) (can_stand said.value.0) said.value) _ rule said.goes_on in
+    let there : rule_codec.at bytes ≡ Some said.value = given (BadRecord 9) (rule_codec.at bytes) said.value said.is in
+    let same : said.value ≡ rule = same_value (BadRecord 9) (can_stand said.value.0) said.value standing.value standing.is
+    ∙ same_value (BadRecord 9) (not (same_rule standing.value.0 (opening_rule s))) standing.value rule standing.goes_on in
+    rule_clean behind p bytes rule (there ∙ ap Some same) clean
+
+-- a rule where there is one
+ruled_so : (version : ℕ) (j : JournalAtRest) (bytes : List ℕ) (next : JournalAtRest × List ℕ) (behind : Telling) → ruled_in version j bytes ≡ Ok next → ((p : ℕ) → Clean (behind p next.1)) → (p : ℕ)
+    → Clean (ruled_told (version == 3) behind p bytes)
+unfolding ruled_in
+ruled_so version j bytes next behind e clean p = by_test (version == 3) e
+  where
+    by_test : (t : Bool) → (if t then (rule_at j.settings bytes >>= λ rule. Ok (with_rule rule.0 j, rule.1)) else Ok (j, bytes)) ≡ Ok next → Clean (ruled_told t behind p bytes)
+    by_test true e =
+        let rule = well (rule_at j.settings bytes) (λ rule. Ok (with_rule rule.0 j, rule.1)) next e in
+        taken_clean j.settings bytes rule.value behind rule.is
+        (λ q. subst (λ (n : JournalAtRest × List ℕ). Clean (behind q n.1)) (sym (ok_is (with_rule rule.value.0 j, rule.value.1) next rule.goes_on)) (clean q)) p
+    by_test false e = subst (λ (n : JournalAtRest × List ℕ). Clean (behind p n.1)) (sym (ok_is (j, bytes) next e)) (clean p)
+
+head_clean : (place : ℕ) (bytes : List ℕ) → ((p : ℕ) → Clean (ruled_told (has_rule bytes) (each_told entry_told (count_at 5 bytes) stray_told) p (drop 9 bytes))) → Clean (journal_told place bytes)
 unfolding journal_told journal_rows
 head_clean place bytes rest =
     both (head_parts journal_rows place bytes) _ (head_stands journal_rows place bytes (refl, (refl, (refl, (refl, tt))))) (rest (place + length (take 9 bytes)))
@@ -171,18 +196,23 @@ journal_stands number settings bytes j e =
     let head = well _ _ opened.value opened.is in
     let own = well _ _ opened.value head.goes_on in
     let there : journal_head_codec.at bytes ≡ Some head.value = given Short (journal_head_codec.at bytes) head.value head.is in
-    let has : HasJournalHead bytes head.value.0.mark head.value.0.count head.value.1 = journal_head bytes head.value there in
+    let has : HasJournalHead bytes head.value.0.mark head.value.0.version head.value.0.count head.value.1 = journal_head bytes head.value there in
     let test : Bool = head.value.0.mark == journal_name && head.value.0.number == number in
     let first : head.value ≡ own.value = same_value NotABook test head.value own.value own.is in
-    let same : head.value ≡ opened.value = first ∙ same_value Version (is_version head.value.0.version) own.value opened.value own.goes_on in
+    let same : head.value ≡ opened.value = first ∙ same_value Version (is_journal_version head.value.0.version) own.value opened.value own.goes_on in
     let marks : (head.value.0.mark == journal_name) ≡ true = left_true (head.value.0.mark == journal_name) (head.value.0.number == number) (held NotABook test head.value own.value own.is) in
     let plain : is_book bytes ≡ false = no_book bytes (ap (λ n. n == journal_name) (sym has.mark_is) ∙ marks) in
-    let read : entries_in head.value.0.version (length bytes) head.value.0.count (empty_journal number settings) head.value.1 ≡ Ok j =
-    ap (λ h. entries_in h.0.version (length bytes) h.0.count (empty_journal number settings) h.1) same ∙ opened.goes_on in
-    let rest : (p : ℕ) → Clean (each_told entry_told (count_at 5 bytes) stray_told p (drop 9 bytes)) =
-    λ p. subst (λ n. Clean (each_told entry_told n stray_told p (drop 9 bytes))) has.count_is
-    (subst (λ (bs : List ℕ). Clean (each_told entry_told head.value.0.count stray_told p bs)) has.rest
-    (entries_so head.value.0.version (length bytes) head.value.0.count (empty_journal number settings) j head.value.1 read p)) in
+    let read : (ruled_in head.value.0.version (empty_journal number settings) head.value.1 >>= λ ruled. entries_in head.value.0.version (length bytes) head.value.0.count ruled.0 ruled.1) ≡ Ok j =
+    ap (λ h. ruled_in h.0.version (empty_journal number settings) h.1 >>= λ ruled. entries_in h.0.version (length bytes) h.0.count ruled.0 ruled.1) same ∙ opened.goes_on in
+    let ruled = well (ruled_in head.value.0.version (empty_journal number settings) head.value.1) (λ ruled. entries_in head.value.0.version (length bytes) head.value.0.count ruled.0 ruled.1) j read in
+    let entries : (p : ℕ) → Clean (each_told entry_told head.value.0.count stray_told p ruled.value.1) =
+    entries_so head.value.0.version (length bytes) head.value.0.count ruled.value.0 j ruled.value.1 ruled.goes_on in
+    let behind : Telling = each_told entry_told (count_at 5 bytes) stray_told in
+    let rest : (p : ℕ) → Clean (ruled_told (has_rule bytes) behind p (drop 9 bytes)) =
+    λ p. subst (λ t. Clean (ruled_told t behind p (drop 9 bytes))) (sym has.version_is)
+    (subst (λ n. Clean (ruled_told (head.value.0.version == 3) (each_told entry_told n stray_told) p (drop 9 bytes))) has.count_is
+    (subst (λ (bs : List ℕ). Clean (ruled_told (head.value.0.version == 3) (each_told entry_told head.value.0.count stray_told) p bs)) has.rest
+    (ruled_so head.value.0.version (empty_journal number settings) head.value.1 ruled.value (each_told entry_told head.value.0.count stray_told) ruled.is entries p))) in
     subst (λ t. Clean (if t then book_told 0 bytes else journal_told 0 bytes)) (sym plain) (head_clean 0 bytes rest)
 
 -- ---- books

@@ -1,5 +1,5 @@
 -- Pieces of records of which no part is out of place.
-use Rattle.std.proofs.Common.{◌≡◌, ◌≤◌, ℕ, zero, suc, ◌+◌, Bool, true, false, List, [], ◌∷◌, length, take, drop, nat_lt, Option, Some, None, refl, sym, ap, subst, ◌∙◌, arith}
+use Rattle.std.proofs.Common.{◌≡◌, ◌≤◌, ℕ, zero, suc, ◌+◌, ◌==◌, Bool, true, false, List, [], ◌∷◌, length, take, drop, nat_lt, Option, Some, None, refl, sym, ap, subst, ◌∙◌, arith}
 use Rattle.std.specs.Prelude.{if◌then◌else◌}
 use Rattle.std.specs.List.{AllByRecursion}
 use Rattle.std.specs.Int.{w16, from_be_bytes}
@@ -7,15 +7,16 @@ use Rattle.std.proofs.lemmas.List.{length-drop, drop-drop}
 use Rattle.d0_segments.specs.Framing.{framing_fault, request_kind, response_kind}
 use Rattle.codec.specs.Options.{◌>>=◌}
 use Rattle.codec.specs.Fields.{bytes_at, u8_at, u16_at, u32_at, u64_at}
-use Rattle.codec.specs.Codecs.{u8, u16, u32, u64, sized, both as pair}
+use Rattle.codec.specs.Codecs.{u8, u16, u32, u64, sized, times, counted as listed, both as pair}
 use Rattle.codec.proofs.CodecLaws.{both_parts, made_parts}
-use Rattle.claim_model.specs.Journal.{Kept}
+use Rattle.claim_model.specs.Journal.{Kept, RetryRule}
 use Rattle.payer_book.specs.Added.{KeptRow}
 use Rattle.kept_records.specs.Fields.{text_codec}
 use Rattle.kept_records.specs.Versions.{version_codec}
 use Rattle.kept_records.specs.Heads.{journal_head_codec, identity_codec, counts_codec, book_head_codec}
 use Rattle.kept_records.specs.Products.{product_codec}
 use Rattle.kept_records.specs.Rows.{row_codec}
+use Rattle.kept_records.specs.Rules.{rule_codec}
 use Rattle.kept_records.specs.Entries.{answer_of, answer_codec, kept_codec, entry_codec}
 use Rattle.message_words.specs.declared.layout.Form.{Form}
 use Rattle.message_words.specs.declared.layout.Form.TheVariants.{Request, Answer}
@@ -24,11 +25,11 @@ use Rattle.message_words.specs.declared.marks.Mark.TheVariants as mark
 use Rattle.message_words.specs.declared.part.PartKind.{PartKind}
 use Rattle.message_words.specs.declared.part.PartKind.TheVariants as part
 use Rattle.message_words.specs.Parts.{PartSeen}
-use Rattle.message_words.specs.Steps.{AreBody, AreTransmission, at_first, filled_part, header_rows, part_size, width_of, within_behind}
-use Rattle.message_words.specs.AtRest.{Told, Telling, body_parts, count_at, count_in, entry_told, flag_told, flagged_told, piece_told, product_told, row_told, taken_told, text_told, transmission_parts}
+use Rattle.message_words.specs.Steps.{AreBody, AreTransmission, at_first, filled_part, head_parts, header_rows, part_size, width_of, within_behind}
+use Rattle.message_words.specs.AtRest.{Told, Telling, body_parts, count_at, count_in, each_told, entry_told, has_rule, rule_rows, rule_told, switch_count, switch_told, flag_told, flagged_told, piece_told, product_told, row_told, taken_told, text_told, transmission_parts}
 use Rattle.message_words.specs.Standing.{Stands, stands}
 use Rattle.message_words.proofs.AtRest.{body_none, some_size}
-use Rattle.message_words.proofs.Framed.{both, filled, request, answer}
+use Rattle.message_words.proofs.Framed.{both, filled, head_stands, request, answer}
 
 -- no part is out of place
 abbrev pub Clean : Told → Type 0
@@ -230,12 +231,21 @@ counted place bytes rest taken is e = sym (ap (λ (bs : List ℕ). count_in (u32
 further : (more place far : ℕ) (bytes rest behind : List ℕ) → rest ≡ drop place bytes → behind ≡ drop more rest → far ≡ more + place → behind ≡ drop far bytes
 further more place far bytes rest behind is e sum = e ∙ ap (drop more) is ∙ drop-drop more place bytes ∙ ap (λ n. drop n bytes) (omega (arith, sum))
 
-pub record HasJournalHead (bytes : List ℕ) (mark count : ℕ) (left : List ℕ) : Type 0 where
+-- the third byte says whether there is a rule
+third : (bytes : List ℕ) (taken : ℕ × List ℕ) → u8_at (drop 2 bytes) ≡ Some taken → has_rule bytes ≡ (taken.0 == 3)
+unfolding u8_at
+third [] taken e = absurd cc
+third (a ∷ []) taken e = absurd cc
+third (a ∷ b ∷ []) taken e = absurd cc
+third (a ∷ b ∷ version ∷ rest) taken e = ap (λ (t : ℕ × List ℕ). t.0 == 3) (some_is (version, rest) taken e)
+
+pub record HasJournalHead (bytes : List ℕ) (mark version count : ℕ) (left : List ℕ) : Type 0 where
   pub mark_is : mark ≡ from_be_bytes w16 (take 2 bytes)
+  pub version_is : has_rule bytes ≡ (version == 3)
   pub count_is : count ≡ count_at 5 bytes
   pub rest : left ≡ drop 9 bytes
 
-pub journal_head : (bytes : List ℕ) (h : _) → journal_head_codec.at bytes ≡ Some h → HasJournalHead bytes h.0.mark h.0.count h.1
+pub journal_head : (bytes : List ℕ) (h : _) → journal_head_codec.at bytes ≡ Some h → HasJournalHead bytes h.0.mark h.0.version h.0.count h.1
 unfolding journal_head_codec
 journal_head bytes h e =
     let made = made_parts (pair u16 (pair version_codec (pair u16 u32))) _ bytes h.0 h.1 e in
@@ -247,6 +257,7 @@ journal_head bytes h e =
     let at_5 : number.0 ≡ drop 5 bytes = further 2 3 5 bytes version.0 number.0 at_3 (after_2 version.0 (made.0.1.1.0, number.0) number.1) refl in
     record {
       mark_is = sym (ap (λ x. x.mark) made.2) ∙ first_2 bytes (made.0.0, mark.0) mark.1;
+      version_is = third bytes (made.0.1.0, version.0) (ap u8_at (sym at_2) ∙ version.1) ∙ ap (λ x. x.version == 3) made.2;
       count_is = sym (ap (λ x. x.count) made.2) ∙ counted 5 bytes number.0 (made.0.1.1.1, h.1) at_5 number.2;
       rest = further 4 5 9 bytes number.0 h.1 at_5 (after_4 number.0 (made.0.1.1.1, h.1) number.2) refl;
     }
@@ -283,3 +294,37 @@ book_head bytes h e =
       rows_are = sym (ap (λ x. x.rows) made.2) ∙ counted 25 bytes products.0 (made.0.1.1.1.1, h.1) at_25 products.2;
       rest = further 4 25 29 bytes products.0 h.1 at_25 (after_4 products.0 (made.0.1.1.1.1, h.1) products.2) refl;
     }
+
+-- ---- a rule of retries
+
+switches_clean : (n : ℕ) (bytes : List ℕ) (taken : List ℕ × List ℕ) (behind : Telling) → times u16 n bytes ≡ Some taken → ((p : ℕ) → Clean (behind p taken.1)) → (p : ℕ) → Clean (each_told switch_told n behind p bytes)
+unfolding each_told
+switches_clean zero bytes taken behind e clean p = subst (λ (t : List ℕ × List ℕ). Clean (behind p t.1)) (sym (some_is ([], bytes) taken e)) (clean p)
+switches_clean (suc n) bytes taken behind e clean p =
+    let one = there (u16_at bytes) (λ x. times u16 n x.1 >>= λ xs. Some (x.0 ∷ xs.0, xs.1)) taken e in
+    let more = there (times u16 n one.value.1) (λ xs. Some (one.value.0 ∷ xs.0, xs.1)) taken one.goes_on in
+    let left : taken.1 ≡ more.value.1 = ap (λ (t : List ℕ × List ℕ). t.1) (sym (some_is _ taken more.goes_on)) in
+    piece_clean (part.Mark mark.Switch) 2 (each_told switch_told n behind) p bytes refl
+    (λ q. subst (λ (bs : List ℕ). Clean (each_told switch_told n behind q bs)) (after_2 bytes one.value one.is)
+    (switches_clean n one.value.1 more.value behind more.is (λ r. subst (λ (bs : List ℕ). Clean (behind r bs)) left (clean r)) q))
+
+-- how many switches there are
+switches_counted : (bytes rest : List ℕ) (taken : ℕ × List ℕ) → rest ≡ drop 8 bytes → u16_at rest ≡ Some taken → taken.0 ≡ switch_count bytes
+switches_counted bytes rest taken is e = sym (ap (λ (bs : List ℕ). count_in (u16_at bs)) (sym is) ∙ ap count_in e)
+
+pub rule_clean : (behind : Telling) (place : ℕ) (bytes : List ℕ) (rule : RetryRule × List ℕ) → rule_codec.at bytes ≡ Some rule → ((p : ℕ) → Clean (behind p rule.1)) → Clean (rule_told behind place bytes)
+unfolding rule_codec rule_told rule_rows
+rule_clean behind place bytes rule e clean =
+    let made = made_parts (pair u32 (pair u32 (listed u16 u16))) _ bytes rule.0 rule.1 e in
+    let again = both_parts u32 (pair u32 (listed u16 u16)) bytes made.0 rule.1 made.1 in
+    let tries = both_parts u32 (listed u16 u16) again.0 made.0.1 rule.1 again.2 in
+    let count = there (u16_at tries.0) (λ k. times u16 k.0 k.1) (made.0.1.1, rule.1) tries.2 in
+    let at_4 : again.0 ≡ drop 4 bytes = after_4 bytes (made.0.0, again.0) again.1 in
+    let at_8 : tries.0 ≡ drop 8 bytes = further 4 4 8 bytes again.0 tries.0 at_4 (after_4 again.0 (made.0.1.0, tries.0) tries.1) refl in
+    let at_10 : count.value.1 ≡ drop 10 bytes = further 2 8 10 bytes tries.0 count.value.1 at_8 (after_2 tries.0 count.value count.is) refl in
+    let number : count.value.0 ≡ switch_count bytes = switches_counted bytes tries.0 count.value at_8 count.is in
+    let rest : (p : ℕ) → Clean (each_told switch_told (switch_count bytes) behind p (drop 10 bytes)) =
+    λ p. subst (λ n. Clean (each_told switch_told n behind p (drop 10 bytes))) number
+    (subst (λ (bs : List ℕ). Clean (each_told switch_told count.value.0 behind p bs)) at_10
+    (switches_clean count.value.0 count.value.1 (made.0.1.1, rule.1) behind count.goes_on clean p)) in
+    both (head_parts rule_rows place bytes) _ (head_stands rule_rows place bytes (refl, (refl, (refl, tt)))) (rest (place + length (take 10 bytes)))

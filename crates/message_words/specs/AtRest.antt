@@ -1,6 +1,6 @@
 -- What stands where in a journal or a book at rest.
-use Rattle.std.specs.Prelude.{ℕ, zero, suc, ◌+◌, Bool, false, ◌&&◌, ◌==◌, List, [], ◌∷◌, ◌++◌, length, take, drop, Option, Some, None, if◌then◌else◌}
-use Rattle.codec.specs.Fields.{u32_at}
+use Rattle.std.specs.Prelude.{ℕ, zero, suc, ◌+◌, Bool, true, false, ◌&&◌, ◌==◌, List, [], ◌∷◌, ◌++◌, length, take, drop, Option, Some, None, if◌then◌else◌}
+use Rattle.codec.specs.Fields.{u16_at, u32_at}
 use Rattle.kept_records.specs.Fields.{text_codec}
 use Rattle.message_words.specs.declared.dissecting.Carried.{Carried}
 use Rattle.message_words.specs.declared.layout.Form.{Form}
@@ -100,9 +100,36 @@ count_in (Some taken) = taken.0
 abbrev pub count_at : ℕ → List ℕ → ℕ
 count_at place bytes = count_in (u32_at (drop place bytes))
 
--- a journal: its head, as many entries as the head says, and nothing after them
+-- what a rule of retries begins with
+unfoldable pub rule_rows : List (PartKind × ℕ)
+rule_rows = (Mark mark.Again, 4) ∷ (Mark mark.Tries, 4) ∷ (Mark mark.SwitchCount, 2) ∷ []
+
+-- how many switches a rule names
+abbrev pub switch_count : List ℕ → ℕ
+switch_count bytes = count_in (u16_at (drop 8 bytes))
+
+-- the number of a switch
+abbrev pub switch_told : Telling → Telling
+switch_told behind place bytes = piece_told (Mark mark.Switch) 2 behind place bytes
+
+-- a rule: its numbers, and as many switches as it says
+unfoldable pub rule_told : Telling → Telling
+rule_told behind place bytes = head_told rule_rows (each_told switch_told (switch_count bytes) behind) place bytes
+
+-- a journal of version 3 has a rule after its head
+abbrev pub has_rule : List ℕ → Bool
+has_rule (p ∷ j ∷ version ∷ rest) = version == 3
+has_rule _ = false
+
+-- a rule where there is one
+abbrev pub ruled_told : Bool → Telling → Telling
+ruled_told true behind place bytes = rule_told behind place bytes
+ruled_told false behind place bytes = behind place bytes
+
+-- a journal: its head, its rule where it has one, as many entries as the head says, and nothing after them
 unfoldable pub journal_told : Telling
-journal_told place bytes = head_told journal_rows (each_told entry_told (count_at 5 bytes) stray_told) place bytes
+journal_told place bytes =
+    head_told journal_rows (ruled_told (has_rule bytes) (each_told entry_told (count_at 5 bytes) stray_told)) place bytes
 
 -- ---- books
 

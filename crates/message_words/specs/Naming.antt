@@ -55,6 +55,10 @@ mark_names mark.Fee = record { words = codes "fee of the plan"; key = codes "pla
 mark_names mark.Copay = record { words = codes "copay of the plan"; key = codes "plan_copay" }
 mark_names mark.Price = record { words = codes "price a unit"; key = codes "price" }
 mark_names mark.PlanProduct = record { words = codes "product of the plan"; key = codes "plan_product" }
+mark_names mark.Again = record { words = codes "ticks before a retry"; key = codes "again" }
+mark_names mark.Tries = record { words = codes "tries at one switch"; key = codes "tries" }
+mark_names mark.SwitchCount = record { words = codes "count of switches"; key = codes "switch_count" }
+mark_names mark.Switch = record { words = codes "switch"; key = codes "switch" }
 
 -- the marks of records alone
 abbrev pub is_of_record : Mark → Bool

@@ -35,12 +35,12 @@ journal_said pharmacy entries = says_of (of_row JOURNAL) (Number pharmacy ∷ Nu
 abbrev pub record_told : RecordFault → FaultTold
 record_told fault.OutOfMemory = told_of (codes "OutOfMemory") (codes "out of memory")
 record_told fault.Short = told_of (codes "Short") (codes "it is shorter than a head, 9 bytes of a journal and 29 of a book")
-record_told fault.Version = told_of (codes "Version") (codes "its version is neither 1 nor 2")
+record_told fault.Version = told_of (codes "Version") (codes "its version is none that is read")
 record_told fault.NotABook =
     told_of (codes "NotABook") (codes "its letters are neither PJ nor PB, or its number or first serial is none")
 record_told (fault.BadRecord at) =
     told_at (codes "BadRecord")
-    (codes "a product, an entry or a row is cut off or cannot stand there, or bytes follow the last one") at
+    (codes "a rule, a product, an entry or a row is cut off or cannot stand there, or bytes follow the last one") at
 record_told (fault.NumberOrder at) = told_at (codes "NumberOrder") (codes "an entry has not the next number") at
 
 abbrev pub record_fault_said : List ℕ → RecordFault → Said
@@ -99,9 +99,10 @@ identity_in bytes (first ∷ more) = identity_at (drop first.place bytes)
 abbrev pub is_identity : Identity → Bool
 is_identity id = list_all is_plain id.qualifier && list_all is_plain id.provider
 
--- settings under which a journal may have the entries that it has
+-- settings under which a journal may have the rule and the entries that it has. Their switch is number 0, which no switch has: a rule that
+-- is written in a record is another one than that of the settings, and theirs are not known
 abbrev pub own_settings : Identity → PharmacySettings
-own_settings id = journal_settings id.qualifier id.provider (1 ∷ []) 1 1 65536
+own_settings id = journal_settings id.qualifier id.provider (0 ∷ []) 1 1 65536
 
 -- the same where they are settings
 abbrev pub stated_settings : Identity → Option PharmacySettings

@@ -6,10 +6,16 @@ ghost use Rattle.message_words.specs.AtRest.{
   entry_told,
   flag_told,
   flagged_told,
+  has_rule,
   head_told,
   journal_rows,
   journal_told,
+  rule_rows,
+  rule_told,
+  ruled_told,
   stray_told,
+  switch_count,
+  switch_told,
 };
 ghost use Rattle.message_words.specs.Added.{Tells, TellsAll};
 
@@ -18,8 +24,10 @@ use crate::dissecting::Carried;
 use crate::layout::Form;
 use crate::marks::Mark;
 use crate::part::PartKind;
+use crate::part_rows::behind;
 use crate::records::{count_at, cut_mark, cut_marks, cut_text};
 use crate::transmissions::front_of;
+use codec::take_u16;
 use std::alloc::AllocError;
 
 /// The head of a journal.
@@ -30,7 +38,15 @@ static JOURNAL: [(PartKind, usize); 4] = [
     (PartKind::Mark(Mark::Count), 4),
 ];
 
-/// Cuts a journal: its head, and as many entries as the head says and the bytes have.
+/// What a rule of retries begins with.
+static RULE: [(PartKind, usize); 3] = [
+    (PartKind::Mark(Mark::Again), 4),
+    (PartKind::Mark(Mark::Tries), 4),
+    (PartKind::Mark(Mark::SwitchCount), 2),
+];
+
+/// Cuts a journal: its head, its rule of retries where it has one, and as many entries as the head says and the bytes
+/// have.
 pub(crate) fn cut_journal(
     cutter: &mut Cutter<'_>,
     carried: &mut Vec<Carried>,
@@ -39,8 +55,20 @@ pub(crate) fn cut_journal(
     ensures told { OnOk result (TellsAll journal_told cutter.old cutter.new carried.old.items carried.new.items) }
 {
     let count = count_at(cutter.left(), 5);
+    let ruled = has_rule(cutter.left());
     cut_journal_head(cutter)?;
+    cut_ruled(cutter, ruled)?;
     cut_entries(cutter, carried, count)
+}
+
+/// Whether a journal has a rule of retries after its head: version 3 has.
+fn has_rule(bytes: &[u8]) -> bool
+    ensures { result ≡ has_rule bytes.now }
+{
+    match bytes {
+        [_, _, version, ..] => *version == 3,
+        _ => false,
+    }
 }
 
 /// Cuts the head of a journal, as far as the bytes reach.
@@ -51,6 +79,61 @@ fn cut_journal_head(cutter: &mut Cutter<'_>) -> Result<(), AllocError>
         → Tells (head_told journal_rows) true cutter.old cutter.new carried carried) }
 {
     cut_marks(cutter, JOURNAL.as_slice())
+}
+
+/// Cuts the rule of a journal, where it has one.
+fn cut_ruled(cutter: &mut Cutter<'_>, ruled: bool) -> Result<(), AllocError>
+    ensures whole { cutter.new.whole ≡ cutter.old.whole }
+    ensures told { OnOk result ((carried : List Carried)
+        → Tells (ruled_told ruled) true cutter.old cutter.new carried carried) }
+{
+    if ruled { cut_rule(cutter) } else { Ok(()) }
+}
+
+/// Cuts a rule of retries, as far as the bytes reach.
+fn cut_rule(cutter: &mut Cutter<'_>) -> Result<(), AllocError>
+    ensures whole { cutter.new.whole ≡ cutter.old.whole }
+    ensures told { OnOk result ((carried : List Carried)
+        → Tells rule_told true cutter.old cutter.new carried carried) }
+{
+    let count = switch_count(cutter.left());
+    cut_rule_head(cutter)?;
+    cut_switches(cutter, count)
+}
+
+/// How many switches a rule names, and 0 where that is cut off.
+fn switch_count(bytes: &[u8]) -> u16
+    ensures { result ≡ switch_count bytes.now }
+{
+    match take_u16(behind(bytes, 8)) {
+        Some((count, _)) => count,
+        None => 0,
+    }
+}
+
+/// Cuts what a rule begins with, as far as the bytes reach.
+#[tactic(auto, unfolding(crate::specs::AtRest::rule_rows))]
+fn cut_rule_head(cutter: &mut Cutter<'_>) -> Result<(), AllocError>
+    ensures whole { cutter.new.whole ≡ cutter.old.whole }
+    ensures told { OnOk result ((carried : List Carried)
+        → Tells (head_told rule_rows) true cutter.old cutter.new carried carried) }
+{
+    cut_marks(cutter, RULE.as_slice())
+}
+
+/// Cuts this many numbers of switches, as far as the bytes have them.
+fn cut_switches(cutter: &mut Cutter<'_>, count: u16) -> Result<(), AllocError>
+    ensures whole { cutter.new.whole ≡ cutter.old.whole }
+    ensures told { OnOk result ((carried : List Carried)
+        → Tells (each_told switch_told count) true cutter.old cutter.new carried carried) }
+{
+    for _ in 0..count {
+        if cutter.left().is_empty() {
+            return Ok(());
+        }
+        cut_mark(cutter, Mark::Switch, 2)?;
+    }
+    Ok(())
 }
 
 /// Cuts this many entries of a journal, as far as the bytes have them.

@@ -36,6 +36,14 @@ pub enum Mark {
     Price,
     /// A product of a plan.
     PlanProduct,
+    /// After how many ticks a pharmacy sends an entry again.
+    Again,
+    /// How often it sends an entry to one switch before the next.
+    Tries,
+    /// How many switches its rule of retries names.
+    SwitchCount,
+    /// The number of a switch of that rule.
+    Switch,
 }
 
 impl Mark {
@@ -84,6 +92,10 @@ impl Mark {
             Mark::Fee => ("fee of the plan", "plan_fee"),
             Mark::Copay => ("copay of the plan", "plan_copay"),
             Mark::Price => ("price a unit", "price"),
+            Mark::Again => ("ticks before a retry", "again"),
+            Mark::Tries => ("tries at one switch", "tries"),
+            Mark::SwitchCount => ("count of switches", "switch_count"),
+            Mark::Switch => ("switch", "switch"),
             _ => ("product of the plan", "plan_product"),
         }
     }

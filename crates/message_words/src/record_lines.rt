@@ -174,14 +174,14 @@ fn record_told(fault: RecordFault) -> Told
             "Short",
             "it is shorter than a head, 9 bytes of a journal and 29 of a book",
         ),
-        RecordFault::Version => Told::of("Version", "its version is neither 1 nor 2"),
+        RecordFault::Version => Told::of("Version", "its version is none that is read"),
         RecordFault::NotABook => Told::of(
             "NotABook",
             "its letters are neither PJ nor PB, or its number or first serial is none",
         ),
         RecordFault::BadRecord(at) => Told::at(
             "BadRecord",
-            "a product, an entry or a row is cut off or cannot stand there, or bytes follow the last one",
+            "a rule, a product, an entry or a row is cut off or cannot stand there, or bytes follow the last one",
             at,
         ),
         RecordFault::NumberOrder(at) => {
@@ -207,7 +207,8 @@ struct Provider {
     provider: [u8; 15],
 }
 
-/// Settings under which a journal may have the entries that it has, of this provider. None where it has a separator.
+/// Settings under which a journal may have the rule and the entries that it has, of this provider. None where it has a
+/// separator.
 fn settings_of(alloc: Global, identity: Provider) -> Result<Option<PharmacySettings>, AllocError>
     ensures settings { IfOk result (λ o. o ≡ stated_settings (identity_seen identity)) }
     ensures node { IfOk result (λ settings. IfSome settings (λ s. 0 < length s.nodes)) }
@@ -219,12 +220,13 @@ fn settings_of(alloc: Global, identity: Provider) -> Result<Option<PharmacySetti
     }
 }
 
-/// A list of one switch.
+/// A list of one switch: number 0, which no switch has. A rule that is written in a record is another one than that of the
+/// settings, and theirs are not known: so these name a switch that no rule has.
 fn one_node(alloc: Global) -> Result<Vec<u16>, AllocError>
-    ensures { IfOk result (λ nodes. nodes.items ≡ 1 ∷ []) }
+    ensures { IfOk result (λ nodes. nodes.items ≡ 0 ∷ []) }
 {
     let mut nodes = Vec::new(alloc);
-    nodes.push(1)?;
+    nodes.push(0)?;
     Ok(nodes)
 }
 

@@ -1,6 +1,5 @@
 -- The first call of a log that its node does not make.
 use Rattle.std.specs.Prelude.{◌≡◌, ℕ, zero, suc, List, [], ◌∷◌, Option, Some, None, Result, Ok, Err}
-use Rattle.bin_routes.specs.Table.{routes_of}
 use Rattle.claim_model.specs.Context.{Context}
 use Rattle.claim_model.specs.Bytes.{bytes_with}
 use Rattle.claim_model.specs.Settings.{opening}
@@ -11,6 +10,7 @@ use Rattle.world_setup.specs.Seen.{settings_seen}
 use Rattle.world_setup.specs.declared.settings.WorldSettings.{WorldSettings}
 use Rattle.node_log.specs.Fits.{FitsBy, Fits}
 use Rattle.node_log.specs.declared.misfit.FirstMisfit.{FirstMisfit}
+use Rattle.world_setup.specs.Taken.{routes_in}
 
 -- a node makes a call as the log has it, and is then in this state
 abbrev pub Does : Context → AnyNode → Logged → AnyNode → Type 0
@@ -40,4 +40,4 @@ IsMadeFrom ctx before calls (Err first) = BreaksAt ctx before calls first.place
 pub record IsMade (s : WorldSettings) (node : Node) (calls : List Logged) (result : Result AnyNode FirstMisfit) : Type 0 where
   pub before : AnyNode
   pub opens : node_at (opening (settings_seen s)) node ≡ Some before
-  pub made : IsMadeFrom (bytes_with (routes_of s.routes.items)) before calls result
+  pub made : IsMadeFrom (bytes_with (routes_in s)) before calls result

@@ -77,6 +77,15 @@ fn copy_call(call: &Call) -> Result<Call, AllocError>
             fee: *fee,
             copay: *copay,
         }),
+        Call::Retry {
+            nodes,
+            again,
+            tries,
+        } => Ok(Call::Retry {
+            nodes: nodes.copy()?,
+            again: *again,
+            tries: *tries,
+        }),
         Call::Adjudicate {
             from,
             bytes,

@@ -14,7 +14,7 @@ unfolding stopped
 grown_unless ctx j text (Some fault) next sent done = absurd (cc)
 grown_unless ctx j text None next sent done =
     let entries = j.entries ++ record { request = text; state = Rattle.claim_model.specs.Journal.Waits 0 } ∷ [] in
-    let is : OfPharmacy (Up (record { number = j.number; settings = j.settings; entries = entries })) ≡ next = cc in
+    let is : OfPharmacy (Up (record { number = j.number; settings = j.settings; rule = j.rule; entries = entries })) ≡ next = cc in
     rw (sym is) (omega (arith, length-map entries kept_entry, length-map j.entries kept_entry, length-append j.entries (record { request = text; state = Rattle.claim_model.specs.Journal.Waits 0 } ∷ [])))
 
 -- a submission that is accepted adds one entry

@@ -2,7 +2,6 @@
 use Rattle.std.proofs.Common.{◌≡◌, ℕ, zero, suc, true, List, [], ◌∷◌, ◌++◌, length, Option, Some, None, slice_get, refl, sym, ap, ◌∙◌, subst, inl, inr, ◌⊎◌, arith}
 use Rattle.std.specs.Prelude.{option_map, is_some}
 use Rattle.bin_routes.specs.Row.{Row}
-use Rattle.bin_routes.specs.Table.{routes_of}
 use Rattle.claim_model.specs.Bytes.{bytes_with}
 use Rattle.claim_model.specs.Journal.{Journal, JournalAtRest}
 use Rattle.claim_model.specs.Table.{Table}
@@ -26,15 +25,16 @@ use Rattle.node_logged.specs.Setting.{context_of, opened}
 use Rattle.node_logged.specs.Holding.{IsKept}
 use Rattle.node_logged.specs.Alike.{AreAlike}
 use Rattle.node_logged.specs.Standing.{HasLogOf, AreStanding, AreAll, next_name, with_node}
+use Rattle.world_setup.specs.Taken.{routes_with}
 
 -- under the same settings
 
 pub kept_alike : (a b : WorldSettings) (state : AnyNode) (log : NodeLog) → AreAlike a b → IsKept a state log → IsKept b state log
 kept_alike a b state log e k = record {
-  replay = subst (λ (r : List Row). option_map (λ n. replay (bytes_with (routes_of r)) n log.calls) (node_at (opening (settings_seen b)) log.node) ≡ Some state) e.routes
-      (subst (λ (m : model.WorldSettings). option_map (λ n. replay (bytes_with (routes_of a.routes.items)) n log.calls) (node_at (opening m) log.node) ≡ Some state) e.nodes k.replay);
-  fits = subst (λ (r : List Row). FitsThere (bytes_with (routes_of r)) (node_at (opening (settings_seen b)) log.node) log.calls) e.routes
-      (subst (λ (m : model.WorldSettings). FitsThere (bytes_with (routes_of a.routes.items)) (node_at (opening m) log.node) log.calls) e.nodes k.fits);
+  replay = subst (λ (r : List Row). option_map (λ n. replay (bytes_with (routes_with (settings_seen b) r)) n log.calls) (node_at (opening (settings_seen b)) log.node) ≡ Some state) e.routes
+      (subst (λ (m : model.WorldSettings). option_map (λ n. replay (bytes_with (routes_with m a.routes.items)) n log.calls) (node_at (opening m) log.node) ≡ Some state) e.nodes k.replay);
+  fits = subst (λ (r : List Row). FitsThere (bytes_with (routes_with (settings_seen b) r)) (node_at (opening (settings_seen b)) log.node) log.calls) e.routes
+      (subst (λ (m : model.WorldSettings). FitsThere (bytes_with (routes_with m a.routes.items)) (node_at (opening m) log.node) log.calls) e.nodes k.fits);
 }
 
 some_mapped : {A B : Type 0} (f : A → B) (o : Option A) (b : B) → option_map f o ≡ Some b → is_some o ≡ true

@@ -1,6 +1,6 @@
 -- What the bytes of one node are read as, among the others, and what lines ask it for.
 use Rattle.std.proofs.Common.{◌≡◌, inl, inr, ℕ, true, false, cond, List, [], ◌∷◌, ◌++◌, length, Some, Result, Ok, Err, sym, ap, ◌∙◌, subst, arith, append_assoc, append-nil}
-use Rattle.claim_model.specs.Node.{Node, Call, Submit, Tick, Take, Stop, Start, Reprice, Adjudicate}
+use Rattle.claim_model.specs.Node.{Node, Call, Submit, Tick, Take, Stop, Start, Revise, Adjudicate}
 use Rattle.claim_model.specs.World.{Packet}
 use Rattle.claim_model.specs.Nodes.{same_node}
 use Rattle.claim_model.specs.Logs.{Logged, NodeLog, posted_by}
@@ -127,7 +127,7 @@ asked_later_too owners t all node (Submit text) c = c
 asked_later_too owners t all node Tick c = c
 asked_later_too owners t all node Stop c = c
 asked_later_too owners t all node Start c = c
-asked_later_too owners t all node (Reprice change) c = c
+asked_later_too owners t all node (Revise change) c = c
 asked_later_too owners t all node (Adjudicate from bytes advice) c = sent_later owners t all (record { from = from; to = node; bytes = bytes }) c
 
 pub own_turn : (t : Turn) (all : List Turn) (node : Node) → same_node t.node node ≡ true → own node (t ∷ all) ≡ t.happens ∷ own node all

@@ -3,7 +3,7 @@ use Rattle.std.proofs.Common.{◌≡◌, inl, inr, ℕ, Bool, true, false, List,
 use Rattle.std.specs.List.{AllByRecursion}
 use Rattle.claim_model.specs.Context.{Context}
 use Rattle.claim_model.specs.Laws.{Laws}
-use Rattle.claim_model.specs.Node.{Node, Call, Submit, Tick, Take, Stop, Start, Reprice, Adjudicate, Outcome, Done, Refused}
+use Rattle.claim_model.specs.Node.{Node, Call, Submit, Tick, Take, Stop, Start, Revise, Adjudicate, Outcome, Done, Refused}
 use Rattle.claim_model.specs.World.{World, Packet}
 use Rattle.claim_model.specs.Settings.{WorldSettings, Accepts, opening}
 use Rattle.claim_model.specs.Nodes.{AnyNode, node_step, node_at, same_node}
@@ -91,7 +91,7 @@ can_ask n owners all node (Submit text) keeps own w = own
 can_ask n owners all node Tick keeps own w = own
 can_ask n owners all node Stop keeps own w = tt
 can_ask n owners all node Start keeps own w = tt
-can_ask n owners all node (Reprice change) keeps own w = own
+can_ask n owners all node (Revise change) keeps own w = own
 can_ask n owners all node (Adjudicate from bytes advice) keeps own w = keeps w.later w.earlier w.is from w.calls (record { from = from; to = node; bytes = bytes }) w.has w.sent
 
 can_ask_all : (n : Network) (owners : Owners) (all : List Turn) (node : Node) (lines : List (List ℕ)) (steps : List Step) → Kept n owners all → Tied owners all node lines → AreAskedIn lines steps → CanAskAll n node (own_steps node steps)

@@ -2,8 +2,8 @@
 use Rattle.std.proofs.Common.{◌≡◌, ℕ, zero, suc, true, false, List, [], ◌∷◌, ◌++◌, Some, refl, sym, ap, ◌∙◌, subst, append_assoc, append-nil}
 use Rattle.std.specs.Prelude.{⊤, option_map}
 use Rattle.claim_model.specs.Context.{Context}
-use Rattle.claim_model.specs.Node.{Node, Pharmacy, Switch, Payer, Call, Submit, Tick, Take, Stop, Start, Reprice, Adjudicate}
-use Rattle.claim_model.specs.World.{Packet, Event, Submission, Ticking, Delivery, Stopping, Starting, PlanChange, Adjudication}
+use Rattle.claim_model.specs.Node.{Node, Pharmacy, Switch, Payer, Call, Submit, Tick, Take, Stop, Start, Revise, Adjudicate}
+use Rattle.claim_model.specs.World.{Packet, Event, Submission, Ticking, Delivery, Stopping, Starting, Revising, Adjudication}
 use Rattle.claim_model.specs.Settings.{WorldSettings}
 use Rattle.claim_model.specs.Nodes.{asked, taking, adjudicating}
 use Rattle.claim_model.specs.Logs.{Logged, posted_by}
@@ -31,7 +31,7 @@ CanAsk n node (Submit text) = is_own node (Submit text) ≡ true
 CanAsk n node Tick = is_own node Tick ≡ true
 CanAsk n node Stop = ⊤
 CanAsk n node Start = ⊤
-CanAsk n node (Reprice change) = is_own node (Reprice change) ≡ true
+CanAsk n node (Revise change) = is_own node (Revise change) ≡ true
 CanAsk n node (Adjudicate from bytes advice) = IsAmong (posted_by from (n.at from).synced) (record { from = from; to = node; bytes = bytes })
 
 abbrev pub CanAskAll : Network → Node → List Step → Type 0
@@ -51,7 +51,7 @@ ask_there n m node (Submit text) same a = a
 ask_there n m node Tick same a = a
 ask_there n m node Stop same a = a
 ask_there n m node Start same a = a
-ask_there n m node (Reprice change) same a = a
+ask_there n m node (Revise change) same a = a
 ask_there n m node (Adjudicate from bytes advice) same a = subst (λ (p : Process). IsAmong (posted_by from p.synced) (record { from = from; to = node; bytes = bytes })) (sym (same from)) a
 
 asks_there : (n m : Network) (node : Node) (steps : List Step) → SameAt n m → CanAskAll n node steps → CanAskAll m node steps
@@ -112,9 +112,7 @@ module _ (ctx : Context) (s : WorldSettings) where
   says n (Pharmacy k) (Makes Tick ∷ more) a = freely n (Pharmacy k) Tick more (λ wire. (Ticking k, refl)) (says n (Pharmacy k) more a.1)
   says n (Switch k) (Makes Tick ∷ more) a = absurd (let wrong : false ≡ true = a.0 in cc)
   says n (Payer k) (Makes Tick ∷ more) a = absurd (let wrong : false ≡ true = a.0 in cc)
-  says n (Payer k) (Makes (Reprice change) ∷ more) a = freely n (Payer k) (Reprice change) more (λ wire. (PlanChange k change, refl)) (says n (Payer k) more a.1)
-  says n (Pharmacy k) (Makes (Reprice change) ∷ more) a = absurd (let wrong : false ≡ true = a.0 in cc)
-  says n (Switch k) (Makes (Reprice change) ∷ more) a = absurd (let wrong : false ≡ true = a.0 in cc)
+  says n node (Makes (Revise revision) ∷ more) a = freely n node (Revise revision) more (λ wire. (Revising node revision, refl)) (says n node more a.1)
   says n node (Makes Stop ∷ more) a = freely n node Stop more (λ wire. (Stopping node, refl)) (says n node more a.1)
   says n node (Makes Start ∷ more) a = freely n node Start more (λ wire. (Starting node, refl)) (says n node more a.1)
   says n node (Syncs ∷ more) a = let r = says n node more a in record { moves = r.moves; same = r.same; more = r.more; wire = r.wire; can = r.can }

@@ -4,7 +4,7 @@ use Rattle.std.proofs.lemmas.List.{map-append, take-append-drop}
 use Rattle.std.proofs.lemmas.Grind.{flat_map-append}
 use Rattle.std.specs.Prelude.{bytes_eq, codes, flat_map}
 use Rattle.std.specs.List.{AllByRecursion}
-use Rattle.claim_model.specs.Node.{Node, Call, Submit, Tick, Take, Stop, Start, Reprice, Adjudicate, Sent, Outcome, Done, Refused}
+use Rattle.claim_model.specs.Node.{Node, Call, Submit, Tick, Take, Stop, Start, Revise, Adjudicate, Sent, Outcome, Done, Refused}
 use Rattle.claim_model.specs.Nodes.{AnyNode, node_step}
 use Rattle.claim_model.specs.Numbered.{numbered}
 use Rattle.claim_model.specs.World.{Packet, packet_from}
@@ -134,7 +134,7 @@ known_spoken node s Tick number = no_word node [] s.out
 known_spoken node s (Take from bytes) number = no_word node [] s.out
 known_spoken node s Stop number = no_word node [] s.out
 known_spoken node s Start number = no_word node [] s.out
-known_spoken node s (Reprice change) number = no_word node [] s.out
+known_spoken node s (Revise change) number = no_word node [] s.out
 known_spoken node s (Adjudicate from bytes advice) number = no_word node [] s.out
 
 once_spoken : (node : Node) (s : Serving) (stamp : Stamp) (call : Call) (o : Option ℕ) → IsSpoken node (bare_calls (kept_once s stamp call o)) s.out (making_once s stamp call o).out

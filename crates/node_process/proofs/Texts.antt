@@ -1,6 +1,5 @@
 -- What a log and the lines of an input leave together is the text of a log.
 use Rattle.std.proofs.Common.{◌≡◌, ℕ, List, ◌++◌, take, Option, Some, None, sym, ap, ◌∙◌, subst}
-use Rattle.bin_routes.specs.Table.{routes_of}
 use Rattle.claim_model.specs.Bytes.{bytes_with}
 use Rattle.claim_model.specs.Context.{Context}
 use Rattle.claim_model.specs.Node.{Node}
@@ -23,6 +22,7 @@ use Rattle.node_service.proofs.Lines.{is_opened_serving, lines_serve}
 use Rattle.node_process.specs.Heard.{whole_lines}
 use Rattle.node_process.specs.Safe.{asked, log_of, FitsInput, Whose}
 use Rattle.node_process.proofs.Remembering.{lines_settings}
+use Rattle.world_setup.specs.Taken.{routes_with}
 
 -- what a log begins with, and how its node reads bytes, hang on the document alone
 pub same_begin : (a b : Settings) (node : Node) (rest : Option (List ℕ)) → document_seen a ≡ document_seen b → begins a node rest ≡ begins b node rest
@@ -30,7 +30,7 @@ same_begin a b node None same = ap (λ (d : Document). node_at (opening d.world)
 same_begin a b node (Some rest) same = ap (λ (d : Document). begun_from d.world node (rest_in rest)) same
 
 pub same_context : (a b : Settings) → document_seen a ≡ document_seen b → context_of a ≡ context_of b
-same_context a b same = ap (λ (d : Document). bytes_with (routes_of d.routes)) same
+same_context a b same = ap (λ (d : Document). bytes_with (routes_with d.world d.routes)) same
 
 -- bytes are the text of a log of these records, whose calls its node makes
 pub record IsMadeText (whose : Whose) (digest : List ℕ) (settings : Settings) (bytes : List ℕ) (calls : List Stamped) : Type 0 where

@@ -3,7 +3,7 @@ use Rattle.std.specs.Prelude.{◌≡◌, ⊤, ℕ, cond, List, [], ◌∷◌, �
 use Rattle.std.specs.List.{AllByRecursion}
 use Rattle.claim_model.specs.Context.{Context}
 use Rattle.claim_model.specs.Laws.{Laws}
-use Rattle.claim_model.specs.Node.{Node, Call, Submit, Tick, Take, Stop, Start, Reprice, Adjudicate}
+use Rattle.claim_model.specs.Node.{Node, Call, Submit, Tick, Take, Stop, Start, Revise, Adjudicate}
 use Rattle.claim_model.specs.World.{World, Packet}
 use Rattle.claim_model.specs.Settings.{Accepts, opening}
 use Rattle.claim_model.specs.Nodes.{node_at, same_node}
@@ -55,7 +55,7 @@ IsOfPacket owners all node (Submit text) = ⊤
 IsOfPacket owners all node Tick = ⊤
 IsOfPacket owners all node Stop = ⊤
 IsOfPacket owners all node Start = ⊤
-IsOfPacket owners all node (Reprice change) = ⊤
+IsOfPacket owners all node (Revise change) = ⊤
 IsOfPacket owners all node (Adjudicate from bytes advice) = WasSent owners all (record { from = from; to = node; bytes = bytes })
 
 -- of each of these lines that asks for a call

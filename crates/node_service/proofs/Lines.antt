@@ -4,7 +4,6 @@ use Rattle.std.specs.Prelude.{option_map, codes}
 use Rattle.std.specs.List.{AllByRecursion}
 use Rattle.settings_digest.specs.Digests.{turned_under}
 use Rattle.settings_digest.proofs.Keeping.{turned_keeps, turned_length}
-use Rattle.bin_routes.specs.Table.{routes_of}
 use Rattle.claim_model.specs.Bytes.{bytes_with}
 use Rattle.claim_model.specs.Context.{Context}
 use Rattle.claim_model.specs.Settings.{WorldSettings, opening}
@@ -35,6 +34,7 @@ use Rattle.node_service.specs.Answering.{idle_line, refused_line}
 use Rattle.node_service.specs.Serving.{Serving, saying, after_call, again, is_idle_call, known, making, making_once, told_of, cleared, after_asked, after_line}
 use Rattle.node_service.specs.Opened.{IsBegun, IsOpened, MakesAll, referred_behind, referred_from, replayed_behind}
 use Rattle.node_service.specs.Lines.{joined, after_lines, kept_asked, kept_call, kept_making, kept_once, line_calls, line_kept, lines_calls, lines_kept, with_records, IsServing, IsSame}
+use Rattle.world_setup.specs.Taken.{routes_with}
 
 -- ---- what a line adds
 
@@ -220,7 +220,7 @@ begins_by settings node None = refl
 begins_by settings node (Some rest) = refl
 
 abbrev of_document : Node → Option (List ℕ) → List Logged → Document → Option AnyNode
-of_document node rest calls d = replayed_from (bytes_with (routes_of d.routes)) (begun_by d.world node rest) calls
+of_document node rest calls d = replayed_from (bytes_with (routes_with d.world d.routes)) (begun_by d.world node rest) calls
 
 by_document : (settings : Opened) (node : Node) (rest : Option (List ℕ)) (calls : List Logged) → replayed_behind settings node rest calls ≡ of_document node rest calls (document_seen settings)
 by_document settings node rest calls = ap (λ (begun : Option AnyNode). replayed_from (context_of settings) begun calls) (begins_by settings node rest)
@@ -231,7 +231,7 @@ same_document one other node rest calls same = by_document one node rest calls �
 
 -- the references of a log hang on the document alone too
 abbrev referred_by : Node → Option (List ℕ) → List Stamped → Document → List Reference
-referred_by node rest calls d = references_before rest ++ referred_from (bytes_with (routes_of d.routes)) (begun_by d.world node rest) calls
+referred_by node rest calls d = references_before rest ++ referred_from (bytes_with (routes_with d.world d.routes)) (begun_by d.world node rest) calls
 
 by_document_too : (settings : Opened) (node : Node) (rest : Option (List ℕ)) (calls : List Stamped) → referred_behind settings node rest calls ≡ referred_by node rest calls (document_seen settings)
 by_document_too settings node rest calls = ap (λ (begun : Option AnyNode). references_before rest ++ referred_from (context_of settings) begun calls) (begins_by settings node rest)

@@ -8,8 +8,9 @@ use Rattle.input_text.specs.Decimals.{decimal_number}
 use Rattle.input_text.specs.Printing.{unprinted}
 use Rattle.schedule.specs.Events.{product_in, price_in, price_of}
 use Rattle.world_setup.specs.declared.call.Call as declared
-use Rattle.world_setup.specs.declared.call.Call.TheVariants.{Submit, Tick, Take, Stop, Start, Plan, Terms, Adjudicate}
+use Rattle.world_setup.specs.declared.call.Call.TheVariants.{Submit, Tick, Take, Stop, Start, Plan, Terms, Retry, Adjudicate}
 use Rattle.schedule.specs.Nodes.{node_in}
+use Rattle.schedule.specs.Switches.{switches_in}
 use Rattle.node_service.specs.declared.asking.Asked as value
 use Rattle.node_service.specs.declared.asking.Asked.TheVariants as asked
 use Rattle.kept_logs.specs.Stamps.{Stamp, no_stamp}
@@ -67,6 +68,16 @@ terms_change rest = do
   copay ← cents_in parts.1
   Some (Terms fee copay)
 
+-- the switches that it tries in turn, and two numbers, spelled as cents are: after how many ticks it sends again, and how often to one switch
+unfoldable pub rule_change : List ℕ → Option Call
+rule_change rest = do
+  parts ← split_word rest
+  nodes ← switches_in parts.0
+  numbers ← split_word parts.1
+  again ← cents_in numbers.0
+  tries ← cents_in numbers.1
+  Some (Retry nodes again tries)
+
 -- the calls that are one word
 abbrev pub plain_call : List ℕ → Option Call
 plain_call line =
@@ -81,7 +92,8 @@ call_with word rest =
     if bytes_eq word (codes "take") then taking rest else
     if bytes_eq word (codes "adjudicate") then adjudication rest else
     if bytes_eq word (codes "plan") then plan_change rest else
-    if bytes_eq word (codes "terms") then terms_change rest else None
+    if bytes_eq word (codes "terms") then terms_change rest else
+    if bytes_eq word (codes "retry") then rule_change rest else None
 
 abbrev pub call_parted : List ℕ → Option (List ℕ × List ℕ) → Option Call
 call_parted line (Some parts) = call_with parts.0 parts.1

@@ -1,7 +1,7 @@
 -- What a line makes of a node that is served: the node, the records for its log, and what is written.
 use Rattle.std.specs.Prelude.{ℕ, zero, ◌+◌, ◌&&◌, ◌==◌, Bool, false, cond, bytes_eq, nat_lt, List, [], ◌∷◌, ◌++◌, length, codes, Option, Some, None, if◌then◌else◌}
 use Rattle.claim_model.specs.Context.{Context}
-use Rattle.claim_model.specs.Node.{Node, Pharmacy, Switch, Payer, Sent, Call, Submit, Tick, Take, Stop, Start, Reprice, Adjudicate, Outcome, Done, Refused}
+use Rattle.claim_model.specs.Node.{Node, Pharmacy, Switch, Payer, Sent, Call, Submit, Tick, Take, Stop, Start, Revise, Adjudicate, Outcome, Done, Refused}
 use Rattle.claim_model.specs.Nodes.{AnyNode, node_step}
 use Rattle.node_state.specs.Nodes.{entries_of, request_of, held_of, is_idle_node}
 use Rattle.claim_model.specs.Refusal.{refusal_name}
@@ -38,7 +38,7 @@ last_line Tick next = done_line
 last_line (Take from bytes) next = done_line
 last_line Stop next = done_line
 last_line Start next = done_line
-last_line (Reprice change) next = done_line
+last_line (Revise change) next = done_line
 last_line (Adjudicate from bytes advice) next = done_line
 
 -- what is written of a call that was made
@@ -70,7 +70,7 @@ is_idle_call state Tick = is_idle_node state
 is_idle_call state (Take from bytes) = false
 is_idle_call state Stop = false
 is_idle_call state Start = false
-is_idle_call state (Reprice change) = false
+is_idle_call state (Revise change) = false
 is_idle_call state (Adjudicate from bytes advice) = false
 
 -- a call is made, or refused
@@ -92,7 +92,7 @@ known references name Tick = None
 known references name (Take from bytes) = None
 known references name Stop = None
 known references name Start = None
-known references name (Reprice change) = None
+known references name (Revise change) = None
 known references name (Adjudicate from bytes advice) = None
 
 -- the number is told again, where the request is the same
@@ -106,7 +106,7 @@ again state Tick number = []
 again state (Take from bytes) number = []
 again state Stop number = []
 again state Start number = []
-again state (Reprice change) number = []
+again state (Revise change) number = []
 again state (Adjudicate from bytes advice) number = []
 
 -- a submission whose reference is known is not made again; all else is made

@@ -3,11 +3,11 @@
 ghost use Rattle.std.specs.Prelude.{◌≡◌, IfOk};
 ghost use Rattle.std.specs.Option.{option_map};
 ghost use Rattle.schedule.specs.Events.{price_of};
-ghost use Rattle.node_service.specs.Asking.{adjudication, asked_of, asked_seen, bytes_in, call_of, call_with, cents_in, named_of, named_submission, noted_of, noted_seen, plain_call, plain_question, plan_change, question_of, question_with, range_in, reference_in, reference_of, submission, taking, terms_change, timed, unnoted};
+ghost use Rattle.node_service.specs.Asking.{adjudication, asked_of, asked_seen, bytes_in, call_of, call_with, cents_in, named_of, named_submission, noted_of, noted_seen, plain_call, plain_question, plan_change, question_of, question_with, range_in, reference_in, reference_of, rule_change, submission, taking, terms_change, timed, unnoted};
 
 use input_text::{PrintedFault, read_decimal, split_word, unprint};
 use octets::Octets;
-use schedule::{node_in, price_in, product_in};
+use schedule::{node_in, price_in, product_in, switches_in};
 use std::alloc::{AllocError, Global};
 use world_setup::Call;
 
@@ -60,7 +60,7 @@ pub(crate) enum Question {
 /// What a line asks; `None` where it spells nothing.
 ///
 /// The lines: `submit TEXT`, `submit-as REFERENCE TEXT`, `tick`, `take FROM TEXT`, `adjudicate FROM ADVICE TEXT`, `stop`, `start`,
-/// `plan PRODUCT PRICE`, `terms FEE COPAY`, each also after `at TIME`, and those that change nothing, `answer NUMBER`,
+/// `plan PRODUCT PRICE`, `terms FEE COPAY`, `retry SWITCHES AGAIN TRIES`, each also after `at TIME`, and those that change nothing, `answer NUMBER`,
 /// `open NUMBER COUNT`, `count`, `row NUMBER`, `payments NUMBER COUNT`. Texts, references and advices are printed bytes.
 ///
 /// # Errors
@@ -270,6 +270,9 @@ fn call_with(alloc: Global, word: &[u8], rest: &[u8]) -> Result<Option<Call>, Al
     if word == b"terms".as_slice() {
         return Ok(terms_change(rest));
     }
+    if word == b"retry".as_slice() {
+        return rule_change(alloc, rest);
+    }
     Ok(None)
 }
 
@@ -385,6 +388,33 @@ fn terms_change(rest: &[u8]) -> Option<Call>
     let fee = cents_in(first)?;
     let copay = cents_in(behind)?;
     Some(Call::Terms { fee, copay })
+}
+
+/// Another rule of retries, by switches and two numbers.
+#[tactic(auto, unfolding(crate::specs::Asking::rule_change))]
+fn rule_change(alloc: Global, rest: &[u8]) -> Result<Option<Call>, AllocError>
+    ensures { IfOk result (λ call. call ≡ rule_change rest.now) }
+{
+    let Some((switches, behind)) = split_word(rest) else {
+        return Ok(None);
+    };
+    let Some(nodes) = switches_in(alloc, switches)? else {
+        return Ok(None);
+    };
+    let Some((first, second)) = split_word(behind) else {
+        return Ok(None);
+    };
+    let Some(again) = cents_in(first) else {
+        return Ok(None);
+    };
+    match cents_in(second) {
+        Some(tries) => Ok(Some(Call::Retry {
+            nodes,
+            again,
+            tries,
+        })),
+        None => Ok(None),
+    }
 }
 
 /// The number of cents that a word spells.

@@ -19,6 +19,7 @@ pub(crate) fn is_idle_call(state: &NodeState, call: &Call) -> bool
         Call::Start => false,
         Call::Plan { .. } => false,
         Call::Terms { .. } => false,
+        Call::Retry { .. } => false,
         Call::Adjudicate { .. } => false,
     }
 }

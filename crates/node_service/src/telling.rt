@@ -54,6 +54,7 @@ fn put_last(
         Call::Start => put_done(out),
         Call::Plan { .. } => put_done(out),
         Call::Terms { .. } => put_done(out),
+        Call::Retry { .. } => put_done(out),
         Call::Adjudicate { .. } => put_done(out),
     }
 }

@@ -4,7 +4,7 @@ use Rattle.std.specs.Prelude.{◌&&◌, ◌||◌, nat_le, IsSome, option_map, if
 use Rattle.std.specs.List.{slice_get, list_all}
 use Rattle.std.proofs.lemmas.Bool.{and_parts}
 use Rattle.claim_model.specs.Numbered.{numbered}
-use Rattle.claim_model.specs.Journal.{PharmacySettings}
+use Rattle.claim_model.specs.Journal.{opening_rule, PharmacySettings}
 use Rattle.claim_model.specs.Node.{Up}
 use Rattle.claim_model.specs.Settings.{WorldSettings, SettingsFault, TooMany, NoNode, settings_fault, too_many, is_empty, is_switch, has_nodes, pharmacies_from, switches_of, payers_from}
 use Rattle.claim_model.specs.Settings.{PayerSettings as Opened}
@@ -33,7 +33,7 @@ pub length-payers_from : (m : ℕ) (ps : List PayerSettings) → length (payers_
 length-payers_from m [] = refl
 length-payers_from m (p ∷ ps) = ap suc (length-payers_from (m + 1) ps)
 
-pharmacy_from : (m k n : ℕ) (ss : List PharmacySettings) (s : PharmacySettings) → n ≡ m + k → slice_get ss k ≡ Some s → slice_get (pharmacies_from m ss) k ≡ Some (Up (record { number = n; settings = s; entries = [] }))
+pharmacy_from : (m k n : ℕ) (ss : List PharmacySettings) (s : PharmacySettings) → n ≡ m + k → slice_get ss k ≡ Some s → slice_get (pharmacies_from m ss) k ≡ Some (Up (record { number = n; settings = s; rule = opening_rule s; entries = [] }))
 pharmacy_from m k n [] s same is = absurd (cc)
 pharmacy_from m zero n (t ∷ ss) s same is =
     let e : n ≡ m = omega arith in
@@ -42,7 +42,7 @@ pharmacy_from m zero n (t ∷ ss) s same is =
 pharmacy_from m (suc k) n (t ∷ ss) s same is = pharmacy_from (m + 1) k n ss s (omega arith) is
 
 -- the pharmacy of a number, from its settings at the place before
-pub pharmacy_numbered : (n : ℕ) (ss : List PharmacySettings) (s : PharmacySettings) → 0 < n → slice_get ss (n - 1) ≡ Some s → numbered (pharmacies_from 1 ss) n ≡ Some (Up (record { number = n; settings = s; entries = [] }))
+pub pharmacy_numbered : (n : ℕ) (ss : List PharmacySettings) (s : PharmacySettings) → 0 < n → slice_get ss (n - 1) ≡ Some s → numbered (pharmacies_from 1 ss) n ≡ Some (Up (record { number = n; settings = s; rule = opening_rule s; entries = [] }))
 pharmacy_numbered zero ss s some is = absurd (omega arith)
 pharmacy_numbered (suc k) ss s some is =
     let e : suc k - 1 ≡ k = omega arith in

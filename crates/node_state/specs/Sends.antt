@@ -2,7 +2,7 @@
 use Rattle.std.specs.Prelude.{ℕ, Bool, true, false, List, [], map, length}
 use Rattle.claim_model.specs.Journal.{Journal, JournalAtRest}
 use Rattle.claim_model.specs.Table.{Table}
-use Rattle.claim_model.specs.Node.{Power, Up, AtRest, Call, Submit, Tick, Take, Stop, Start, Reprice, Adjudicate}
+use Rattle.claim_model.specs.Node.{Power, Up, AtRest, Call, Submit, Tick, Take, Stop, Start, Revise, Adjudicate}
 use Rattle.switch_node.specs.declared.table.InFlight.{InFlight}
 use Rattle.switch_node.specs.Ring.{in_flight}
 
@@ -17,7 +17,7 @@ asks Tick = true
 asks (Take from bytes) = false
 asks Stop = false
 asks Start = false
-asks (Reprice change) = true
+asks (Revise change) = true
 asks (Adjudicate from bytes advice) = true
 
 -- a tick sends at most as many packets as the journal has entries
@@ -32,7 +32,7 @@ most_sent node Tick = most_due node
 most_sent node (Take from bytes) = 1
 most_sent node Stop = 1
 most_sent node Start = 1
-most_sent node (Reprice change) = 1
+most_sent node (Revise change) = 1
 most_sent node (Adjudicate from bytes advice) = 1
 
 -- the ids in a switch's table and whether each has its answer, oldest first; a stopped switch has none

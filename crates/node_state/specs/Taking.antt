@@ -10,7 +10,7 @@ use Rattle.claim_model.specs.Rows.{Book}
 use Rattle.claim_model.specs.Book.{answered, unadvised}
 use Rattle.claim_model.specs.Journal.{Journal, JournalAtRest, heard}
 use Rattle.claim_model.specs.Table.{Table, requested, responded}
-use Rattle.claim_model.specs.Node.{Node, Power, Up, Call, Submit, Tick, Take, Stop, Start, Reprice, Adjudicate, Outcome, Refused, pharmacy_step, switch_step, payer_step, after_hearing, pharmacy_takes, switch_takes, after_request, after_response, payer_takes, after_answer}
+use Rattle.claim_model.specs.Node.{Node, Power, Up, Call, Submit, Tick, Take, Stop, Start, Revise, Adjudicate, Outcome, Refused, pharmacy_step, switch_step, payer_step, after_hearing, pharmacy_takes, switch_takes, after_request, after_response, payer_takes, after_answer}
 use Rattle.switch_node.specs.Sent.{content}
 
 -- of a packet: this of its envelope, or a refusal where it is none
@@ -25,7 +25,7 @@ IsReadable Tick outcome = Unit {0}
 IsReadable (Take from bytes) outcome = outcome ≢ Refused Unreadable
 IsReadable Stop outcome = Unit {0}
 IsReadable Start outcome = Unit {0}
-IsReadable (Reprice change) outcome = Unit {0}
+IsReadable (Revise change) outcome = Unit {0}
 IsReadable (Adjudicate from bytes advice) outcome = Unit {0}
 
 -- a pharmacy hears an envelope

@@ -3,7 +3,7 @@
 ghost use Rattle.std.specs.Prelude.{◌≡◌, false, Ok, IfNone, IfOk, IfSome, IsTrue};
 ghost use Rattle.std.specs.Option.{option_copied};
 ghost use Rattle.claim_model.specs.Journal.{stopped, started};
-ghost use Rattle.kept_records.specs.Journals.{journal_in, journal_text};
+ghost use Rattle.kept_records.specs.Journals.{journal_in, kept_text};
 
 use kept_records::{RecordFault, read_journal, save_journal};
 use pharmacy_journal::{JournalAtRest, Pharmacy, PharmacySettings};
@@ -45,9 +45,9 @@ impl JournalBytes {
         })
     }
 
-    /// The bytes: the journal's text, of version 2.
+    /// The bytes: the journal's text.
     pub(crate) fn bytes(&self) -> &[u8]
-        ensures { result.now ≡ journal_text 2 self.now }
+        ensures { result.now ≡ kept_text self.now }
     {
         self.bytes.as_slice()
     }

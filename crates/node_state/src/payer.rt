@@ -6,7 +6,7 @@ ghost use Rattle.bin_routes.specs.Table.{RouteMaps};
 ghost use Rattle.claim_model.specs.Bytes.{bytes_with};
 ghost use Rattle.claim_model.specs.Book.{unadvised};
 ghost use Rattle.claim_model.specs.Words.{SetPrice, SetTerms};
-ghost use Rattle.claim_model.specs.Node.{Up, Reprice, Adjudicate, payer_step, payer_takes, advice_in};
+ghost use Rattle.claim_model.specs.Node.{Up, Revise, OfPlan, Adjudicate, payer_step, payer_takes, advice_in};
 ghost use Rattle.claim_model.specs.Held.{book_in};
 ghost use Rattle.world_setup.specs.Seen.{node_seen};
 ghost use Rattle.node_state.specs.Outcomes.{Makes, Refuses, PayerMakes, PayerRefuses};
@@ -79,7 +79,9 @@ impl Kind for Book {
                 bytes,
                 advice,
             } => adjudicate(alloc, self, routes, from, bytes, advice),
-            Call::Submit(_) | Call::Tick => Err(Fault::Refused(Refusal::NoSuchNode)),
+            Call::Submit(_) | Call::Tick | Call::Retry { .. } => {
+                Err(Fault::Refused(Refusal::NoSuchNode))
+            }
             Call::Take { .. } | Call::Stop | Call::Start => unreachable!(),
         }
     }
@@ -227,8 +229,9 @@ fn change_plan(
     price: Option<u32>,
 ) -> Result<Vec<Sent>, Fault>
     ensures ok { (routes : RouteMaps)
-        → PayerMakes routes (Up book.old) (Reprice (SetPrice product.now price)) (Up book.new) result }
-    ensures fault { (routes : RouteMaps) → PayerRefuses routes (Up book.old) (Reprice (SetPrice product.now price)) result }
+        → PayerMakes routes (Up book.old) (Revise (OfPlan (SetPrice product.now price))) (Up book.new) result }
+    ensures fault { (routes : RouteMaps)
+        → PayerRefuses routes (Up book.old) (Revise (OfPlan (SetPrice product.now price))) result }
     ensures few { IfOk result (λ sent. length sent.items ≤ 1) }
     ensures err { OnErr result (book.new ≡ book.old) }
 {
@@ -239,8 +242,9 @@ fn change_plan(
 /// Sets the fee and the copay, in cents. Nothing is sent.
 fn change_terms(alloc: Global, book: &mut Book, fee: u32, copay: u32) -> Result<Vec<Sent>, Fault>
     ensures ok { (routes : RouteMaps)
-        → PayerMakes routes (Up book.old) (Reprice (SetTerms fee copay)) (Up book.new) result }
-    ensures fault { (routes : RouteMaps) → PayerRefuses routes (Up book.old) (Reprice (SetTerms fee copay)) result }
+        → PayerMakes routes (Up book.old) (Revise (OfPlan (SetTerms fee copay))) (Up book.new) result }
+    ensures fault { (routes : RouteMaps)
+        → PayerRefuses routes (Up book.old) (Revise (OfPlan (SetTerms fee copay))) result }
     ensures few { IfOk result (λ sent. length sent.items ≤ 1) }
     ensures err { OnErr result (book.new ≡ book.old) }
 {

@@ -3,11 +3,13 @@
 ghost use Rattle.std.specs.Prelude.{◌≡◌, ◌<◌, ◌≤◌, [], length, refl, None, IfOk, IfErr, OnErr};
 ghost use Rattle.std.specs.Option.{option_copied};
 ghost use Rattle.claim_model.specs.Bytes.{bytes_with};
-ghost use Rattle.claim_model.specs.Node.{Up, Submit, Tick, pharmacy_step};
+ghost use Rattle.claim_model.specs.Journal.{opening_rule};
+ghost use Rattle.claim_model.specs.Node.{Up, Submit, Tick, Revise, OfRule, pharmacy_step};
 ghost use Rattle.claim_model.specs.Held.{journal_in};
 ghost use Rattle.claim_model.specs.Refusal.{refusal_of};
+ghost use Rattle.pharmacy_journal.specs.Ruling.{rule_in};
 ghost use Rattle.node_state.specs.Nodes.{is_idle_pharmacy};
-ghost use Rattle.node_state.specs.Outcomes.{PharmacyMakes, PharmacyRefuses};
+ghost use Rattle.node_state.specs.Outcomes.{Makes, Refuses, PharmacyMakes, PharmacyRefuses};
 ghost use Rattle.node_state.specs.Records.{journal_record};
 ghost use Rattle.node_state.specs.Sends.{most_due, most_sent};
 ghost use Rattle.node_state.specs.Taking.{hears, pharmacy_reads};
@@ -61,16 +63,21 @@ impl Kind for Pharmacy {
         Ok(Vec::new(alloc))
     }
 
-    /// Submits a text, or ticks.
+    /// Submits a text, ticks, or goes by another rule of retries.
     fn ask(
         &mut self,
         alloc: Global,
-        _routes: &Routes,
+        routes: &Routes,
         call: Call<&Octets>,
     ) -> Result<Vec<Sent>, Fault> {
         match call {
             Call::Submit(text) => submit(alloc, self, text.as_slice()),
             Call::Tick => tick(self),
+            Call::Retry {
+                nodes,
+                again,
+                tries,
+            } => change_rule(alloc, self, routes, nodes.as_slice(), again, tries),
             Call::Plan { .. } | Call::Terms { .. } | Call::Adjudicate { .. } => Err(Fault::Refused(
                 Refusal::NoSuchNode,
             )),
@@ -128,6 +135,26 @@ fn tick(pharmacy: &mut Pharmacy) -> Result<Vec<Sent>, Fault>
     Ok(pharmacy.tick_as::<Sent>()?)
 }
 
+/// Goes by another rule of retries. Nothing is sent.
+fn change_rule(
+    alloc: Global,
+    pharmacy: &mut Pharmacy,
+    routes: &Routes,
+    nodes: &[u8],
+    again: u32,
+    tries: u32,
+) -> Result<Vec<Sent>, Fault>
+    ensures ok { Makes (pharmacy_step (bytes_with routes.now) (Up pharmacy.old)
+        (Revise (OfRule (rule_in nodes.now again tries)))) (Up pharmacy.new) result }
+    ensures fault { Refuses (pharmacy_step (bytes_with routes.now) (Up pharmacy.old)
+        (Revise (OfRule (rule_in nodes.now again tries)))) result }
+    ensures few { IfOk result (λ sent. length sent.items ≤ 1) }
+    ensures err { OnErr result (pharmacy.new ≡ pharmacy.old) }
+{
+    pharmacy.change_rule(routes.switches(), nodes, again, tries)?;
+    Ok(Vec::new(alloc))
+}
+
 impl PharmacyNode {
     /// A pharmacy that is up, with an empty journal. Number and list of switches are not empty.
     pub fn new(
@@ -137,7 +164,8 @@ impl PharmacyNode {
     ) -> Result<PharmacyNode, AllocError>
         requires some_number { 0 < number }
         requires some_node { 0 < length settings.nodes }
-        ensures { IfOk result (λ n. n ≡ Up (record { number = number; settings = settings; entries = [] })) }
+        ensures { IfOk result (λ n. n
+            ≡ Up (record { number = number; settings = settings; rule = opening_rule settings; entries = [] })) }
     {
         let pharmacy = Pharmacy::new(alloc, number, settings)?;
         Ok(Powered::running(pharmacy))
@@ -163,7 +191,8 @@ impl PharmacyNode {
         }
     }
 
-    /// The bytes that there are of it at rest: its journal's text, of version 2. None while it is up.
+    /// The bytes that there are of it at rest: its journal's text, of version 2, or 3 where it goes by another rule of retries
+    /// than it was opened with. None while it is up.
     pub fn record(&self) -> Option<&[u8]>
         ensures { option_copied result ≡ journal_record self.now }
     {

@@ -79,6 +79,7 @@ impl Kind for Switch {
             | Call::Tick
             | Call::Plan { .. }
             | Call::Terms { .. }
+            | Call::Retry { .. }
             | Call::Adjudicate { .. } => { Err(Fault::Refused(Refusal::NoSuchNode)) }
             Call::Take { .. } | Call::Stop | Call::Start => unreachable!(),
         }
@@ -100,6 +101,7 @@ impl Kind for Switch {
             | Call::Tick
             | Call::Plan { .. }
             | Call::Terms { .. }
+            | Call::Retry { .. }
             | Call::Adjudicate { .. } => { Fault::Refused(Refusal::NoSuchNode) }
             Call::Take { .. } | Call::Stop | Call::Start => unreachable!(),
         }

@@ -9,7 +9,7 @@ use Rattle.claim_model.specs.Readable.{is_request}
 use Rattle.claim_model.specs.declared.refusal.Refusal.{Refusal}
 use Rattle.claim_model.specs.declared.refusal.Refusal.TheVariants.{Unreadable}
 use Rattle.claim_model.specs.Refusal.{IsRefused}
-use Rattle.claim_model.specs.Journal.{PharmacySettings, Journal, Entry, State, Waits, Has, Sending, heard, settle_by, submitted, submit_fault}
+use Rattle.claim_model.specs.Journal.{PharmacySettings, RetryRule, Journal, Entry, State, Waits, Has, Sending, heard, settle_by, submitted, submit_fault}
 use Rattle.pharmacy_journal.specs.Refusing.{IsCause}
 use Rattle.pharmacy_journal.specs.Reading.{header_of, settles_with}
 use Rattle.pharmacy_journal.specs.Transactions.{Submission}
@@ -28,35 +28,35 @@ same_request (Waiting t) p = refl
 same_request (Settled t) p = refl
 
 -- a refusal of an entry
-pub hear_refused : (routes : RouteMaps) (number : ℕ) (s : PharmacySettings) (t : Rounds) (slots : List Slot) (e : Envelope) (place : ℕ) (slot : Slot) (o : Option Refusal) → IsUp number s t slots → e.id.pharmacy ≡ number → 0 < e.id.number → place ≡ e.id.number - 1 → slice_get slots place ≡ Some slot →
-    ((p : Option ℕ) → IsRefused o (state_after (kept_of slot).request (entry_of slot p).state e)) → IsRefused o (heard (bytes_with routes) (seen number s t slots) e)
-hear_refused routes number s t slots e place slot o up mine some is at h =
+pub hear_refused : (routes : RouteMaps) (number : ℕ) (s : PharmacySettings) (rule : RetryRule) (t : Rounds) (slots : List Slot) (e : Envelope) (place : ℕ) (slot : Slot) (o : Option Refusal) → IsUp number s rule t slots → e.id.pharmacy ≡ number → 0 < e.id.number → place ≡ e.id.number - 1 → slice_get slots place ≡ Some slot →
+    ((p : Option ℕ) → IsRefused o (state_after (kept_of slot).request (entry_of slot p).state e)) → IsRefused o (heard (bytes_with routes) (seen number s rule t slots) e)
+hear_refused routes number s rule t slots e place slot o up mine some is at h =
     let p = phase-at slots t.phases place slot up.phases at in
     let entry = entries_of-at slots t.phases place slot p.0 at p.1 in
-    refused_at routes (seen number s t slots) e place (entry_of slot p.0) o mine some is entry
+    refused_at routes (seen number s rule t slots) e place (entry_of slot p.0) o mine some is entry
     (subst (λ (request : List ℕ). IsRefused o (state_after request (entry_of slot p.0).state e)) (same_request slot p.0) (h p.0))
 
 -- what is not refused as unreadable has an answer that fits the entry's request
-pub hear_known : (routes : RouteMaps) (number : ℕ) (s : PharmacySettings) (t : Rounds) (slots : List Slot) (e : Envelope) (place : ℕ) (slot : Slot) → IsUp number s t slots → e.id.pharmacy ≡ number → 0 < e.id.number → place ≡ e.id.number - 1 → slice_get slots place ≡ Some slot →
-    heard (bytes_with routes) (seen number s t slots) e ≢ Err Unreadable → (not (is_request e) && settles_with (kept_of slot).request e.payload) ≡ true
-hear_known routes number s t slots e place slot up mine some is at h = by (not (is_request e) && settles_with (kept_of slot).request e.payload) refl
+pub hear_known : (routes : RouteMaps) (number : ℕ) (s : PharmacySettings) (rule : RetryRule) (t : Rounds) (slots : List Slot) (e : Envelope) (place : ℕ) (slot : Slot) → IsUp number s rule t slots → e.id.pharmacy ≡ number → 0 < e.id.number → place ≡ e.id.number - 1 → slice_get slots place ≡ Some slot →
+    heard (bytes_with routes) (seen number s rule t slots) e ≢ Err Unreadable → (not (is_request e) && settles_with (kept_of slot).request e.payload) ≡ true
+hear_known routes number s rule t slots e place slot up mine some is at h = by (not (is_request e) && settles_with (kept_of slot).request e.payload) refl
   where
     by : (b : Bool) → (not (is_request e) && settles_with (kept_of slot).request e.payload) ≡ b → (not (is_request e) && settles_with (kept_of slot).request e.payload) ≡ true
     by true fits = fits
-    by false fits = absurd (h (hear_refused routes number s t slots e place slot (Some Unreadable) up mine some is at (λ p. ap (λ (b : Bool). cond b (settle_by e.payload (entry_of slot p).state) (Err Unreadable)) fits)))
+    by false fits = absurd (h (hear_refused routes number s rule t slots e place slot (Some Unreadable) up mine some is at (λ p. ap (λ (b : Bool). cond b (settle_by e.payload (entry_of slot p).state) (Err Unreadable)) fits)))
 
 -- an answer
-pub hear_settles : (routes : RouteMaps) (number : ℕ) (s : PharmacySettings) (t t' : Rounds) (slots slots' : List Slot) (e : Envelope) (place : ℕ) (slot : Slot) (answer : List ℕ) → IsUp number s t slots → e.id.pharmacy ≡ number → 0 < e.id.number → place ≡ e.id.number - 1 → slice_get slots place ≡ Some slot →
+pub hear_settles : (routes : RouteMaps) (number : ℕ) (s : PharmacySettings) (rule : RetryRule) (t t' : Rounds) (slots slots' : List Slot) (e : Envelope) (place : ℕ) (slot : Slot) (answer : List ℕ) → IsUp number s rule t slots → e.id.pharmacy ≡ number → 0 < e.id.number → place ≡ e.id.number - 1 → slice_get slots place ≡ Some slot →
     t' ≡ record { rule = t.rule; phases = set t.phases place None } → slots' ≡ settled_at slots place answer → IsAnsweredBy slot answer → answer ≡ e.payload → ((p : Option ℕ) → state_after (kept_of slot).request (entry_of slot p).state e ≡ Ok (Has e.payload)) →
-    heard (bytes_with routes) (seen number s t slots) e ≡ Ok (seen number s t' slots')
-hear_settles routes number s t t' slots slots' e place slot answer up mine some is at turned kept opens same h =
+    heard (bytes_with routes) (seen number s rule t slots) e ≡ Ok (seen number s rule t' slots')
+hear_settles routes number s rule t t' slots slots' e place slot answer up mine some is at turned kept opens same h =
     let p = phase-at slots t.phases place slot up.phases at in
     let entry = entries_of-at slots t.phases place slot p.0 at p.1 in
     let state : state_after (entry_of slot p.0).request (entry_of slot p.0).state e ≡ Ok (Has answer) =
     ap (λ (request : List ℕ). state_after request (entry_of slot p.0).state e) (sym (same_request slot p.0)) ∙ h p.0 ∙ ap (λ (a : List ℕ). let r : Result State Refusal = Ok (Has a) in r) (sym same) in
     rw (turned, kept)
-    (heard_settles routes (seen number s t slots) e place (entry_of slot p.0) answer mine some is entry state
-    ∙ ap (λ (es : List Entry). let r : Result Journal Refusal = Ok (record { number = number; settings = s; entries = es }) in r) (sym (entries_of-settled slots t.phases place slot p.0 answer at p.1 opens)))
+    (heard_settles routes (seen number s rule t slots) e place (entry_of slot p.0) answer mine some is entry state
+    ∙ ap (λ (es : List Entry). let r : Result Journal Refusal = Ok (record { number = number; settings = s; rule = rule; entries = es }) in r) (sym (entries_of-settled slots t.phases place slot p.0 answer at p.1 opens)))
 
 -- ---- submitting
 
@@ -68,7 +68,7 @@ cause_refuses routes j text (Some fault) h = rw h refl
 
 -- without one, the request is entered and sent
 pub submitted_is : (routes : RouteMaps) (j j' : Journal) (text : List ℕ) (t : Submission) (n : ℕ) (sent : Sending) → submit_fault j text (header_of text) ≡ None → t ≡ record { id = record { pharmacy = j.number; number = length j.entries + 1 }; request = text } →
-    n ≡ t.id.number → sent ≡ packet_of j t.id.number 0 t.request → j' ≡ record { number = j.number; settings = j.settings; entries = j.entries ++ record { request = t.request; state = Waits 0 } ∷ [] } →
+    n ≡ t.id.number → sent ≡ packet_of j t.id.number 0 t.request → j' ≡ record { number = j.number; settings = j.settings; rule = j.rule; entries = j.entries ++ record { request = t.request; state = Waits 0 } ∷ [] } →
     submitted (bytes_with routes) j text ≡ Ok (record { journal = j'; number = n; sent = sent })
 unfolding submitted
 submitted_is routes j j' text t n sent none is_t is_n is_sent is_j = rw (is_j, is_sent, is_n, is_t, none) refl

@@ -7,7 +7,7 @@ use Rattle.claim_model.specs.Journal.{Journal, Entry, State, Waits, Has, due, du
 -- an entry is due at most one packet
 due_one : (ctx : Context) (j : Journal) (number : ℕ) (request : List ℕ) (state : State) → length (due_by ctx j number request state) ≤ 1
 due_one ctx j number request (Waits phase) =
-    elim (eqb (phase % j.settings.again) 0) as (λ b. length (cond b (sending ctx j number phase request ∷ []) []) ≤ 1) [ true ↦ omega arith | false ↦ omega arith ]
+    elim (eqb (phase % j.rule.again) 0) as (λ b. length (cond b (sending ctx j number phase request ∷ []) []) ≤ 1) [ true ↦ omega arith | false ↦ omega arith ]
 due_one ctx j number request (Has answer) = omega arith
 
 due_few : (ctx : Context) (j : Journal) (number : ℕ) (es : List Entry) → length (due_from ctx j number es) ≤ length es
@@ -25,5 +25,5 @@ unfolding due ticked
 due_at_most ctx j =
     let k = ticked j in
     let few : length (due_from ctx k 1 k.entries) ≤ length k.entries = due_few ctx k 1 k.entries in
-    let same : length k.entries ≡ length j.entries = length-map j.entries (λ (e : Entry). let n : Entry = record { request = e.request; state = ticked_state (circle j.settings) e.state } in n) in
+    let same : length k.entries ≡ length j.entries = length-map j.entries (λ (e : Entry). let n : Entry = record { request = e.request; state = ticked_state (circle j.rule) e.state } in n) in
     omega arith

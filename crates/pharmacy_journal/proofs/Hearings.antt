@@ -78,11 +78,11 @@ renumbered_place es (suc k) place x lt e = let same : place ≡ k = omega (arith
 
 -- the journal with the answer
 pub heard_settles : (routes : RouteMaps) (j : Journal) (e : Envelope) (place : ℕ) (entry : Entry) (answer : List ℕ) → e.id.pharmacy ≡ j.number → 0 < e.id.number → place ≡ e.id.number - 1 → slice_get j.entries place ≡ Some entry →
-    state_after entry.request entry.state e ≡ Ok (Has answer) → heard (bytes_with routes) j e ≡ Ok (record { number = j.number; settings = j.settings; entries = set j.entries place (record { request = entry.request; state = Has answer }) })
+    state_after entry.request entry.state e ≡ Ok (Has answer) → heard (bytes_with routes) j e ≡ Ok (record { number = j.number; settings = j.settings; rule = j.rule; entries = set j.entries place (record { request = entry.request; state = Has answer }) })
 heard_settles routes j e place entry answer mine some is at ok =
     heard_is routes j e place entry mine some is at
     ∙ ap (settle_with j e.id.number entry) ok
-    ∙ ap (λ (es : List Entry). let k : Journal = record { number = j.number; settings = j.settings; entries = es } in let r : Result Journal Refusal = Ok k in r) (renumbered_place j.entries e.id.number place _ some is)
+    ∙ ap (λ (es : List Entry). let k : Journal = record { number = j.number; settings = j.settings; rule = j.rule; entries = es } in let r : Result Journal Refusal = Ok k in r) (renumbered_place j.entries e.id.number place _ some is)
 
 -- an entry that waits is open to an answer that fits its request
 pub opened_by : {A E : Type 0} (slot : Slot) (o : Opened) (r : Result A E) → answers slot o ≡ true → OnOk r (is_waiting slot ≡ true) → OnOk r (IsAnsweredBy slot o.payload)

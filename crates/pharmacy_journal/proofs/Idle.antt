@@ -38,7 +38,7 @@ same_entries phases (e ∷ es) h =
 pub idle_ticks : (j : Journal) → is_idle j ≡ true → ticked j ≡ j
 unfolding ticked
 idle_ticks j idle =
-    ap (λ (es : List Entry). let x : Journal = record { number = j.number; settings = j.settings; entries = es } in x) (same_entries (circle j.settings) j.entries idle)
+    ap (λ (es : List Entry). let x : Journal = record { number = j.number; settings = j.settings; rule = j.rule; entries = es } in x) (same_entries (circle j.rule) j.entries idle)
 
 settled_is_not_due : (ctx : Context) (j : Journal) (number : ℕ) (request : List ℕ) (state : State) → is_settled state ≡ true → due_by ctx j number request state ≡ []
 settled_is_not_due ctx j number request (Waits phase) e = absurd cc

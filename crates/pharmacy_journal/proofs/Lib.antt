@@ -9,6 +9,8 @@ pub mod Few
 pub mod Standing
 pub mod Hearings
 pub mod Answering
+pub mod AnotherRule
+pub mod Switches
 pub mod StopStart
 pub mod Payable
 mod Tellings

@@ -3,10 +3,10 @@ use Rattle.std.specs.Prelude.{◌≡◌, ℕ, ◌+◌, ◌<◌, ◌≤◌, Bool,
 use Rattle.std.specs.Option.{option_copied}
 use Rattle.claim_model.specs.Words.{TxnId}
 use Rattle.claim_model.specs.Numbered.{numbered}
-use Rattle.claim_model.specs.Journal.{PharmacySettings, Waits, Has, Entry, Kept}
+use Rattle.claim_model.specs.Journal.{PharmacySettings, RetryRule, Waits, Has, Entry, Kept}
 use Rattle.envelope.specs.Envelope.{longest_payload}
 use Rattle.pharmacy_journal.specs.Reading.{is_own_request, settles_with}
-use Rattle.pharmacy_journal.specs.Settings.{AreSettings, rule_of}
+use Rattle.pharmacy_journal.specs.Settings.{AreSettings, IsGoing, rule_of}
 use Rattle.pharmacy_journal.specs.Timetable.{Rounds}
 use Rattle.pharmacy_journal.specs.declared.kept.KeptEntry.{KeptEntry}
 use Rattle.pharmacy_journal.specs.declared.slot.Slot.{Slot}
@@ -59,15 +59,17 @@ AreEntries s pharmacy n [] = Unit {0}
 AreEntries s pharmacy n (slot ∷ slots) = IsEntry s (record { pharmacy = pharmacy; number = n }) slot × AreEntries s pharmacy (n + 1) slots
 
 -- a journal at rest
-pub record IsAtRest (number : ℕ) (s : PharmacySettings) (slots : List Slot) : Type 0 where
+pub record IsAtRest (number : ℕ) (s : PharmacySettings) (rule : RetryRule) (slots : List Slot) : Type 0 where
   pub some_number : 0 < number
   pub some_node : 0 < length s.nodes
   pub settings : AreSettings s
+  pub some_switch : 0 < length rule.nodes
+  pub going : IsGoing rule
   pub entries : AreEntries s number 1 slots
   pub in_limit : length slots ≤ s.cap
 
 -- a journal that is up: exactly the open entries have a phase
-pub record IsUp (number : ℕ) (s : PharmacySettings) (rounds : Rounds) (slots : List Slot) : Type 0 where
-  pub kept : IsAtRest number s slots
-  pub rule : rounds.rule ≡ rule_of s
+pub record IsUp (number : ℕ) (s : PharmacySettings) (rule : RetryRule) (rounds : Rounds) (slots : List Slot) : Type 0 where
+  pub kept : IsAtRest number s rule slots
+  pub by_rule : rounds.rule ≡ rule_of rule
   pub phases : map is_waiting slots ≡ map is_some rounds.phases

@@ -14,3 +14,4 @@ pub mod Resting
 pub mod Counting
 pub mod Telling
 pub mod Listing
+pub mod Ruling

@@ -1,6 +1,6 @@
 -- Journals at rest, made record by record.
 use Rattle.std.specs.Prelude.{◌≡◌, ◌≢◌, ℕ, ◌-◌, Bool, true, ◌&&◌, nat_le, nat_lt, List, [], ◌∷◌, ◌++◌, length, map, Option, Some, None, Result, IfErr, if◌then◌else◌}
-use Rattle.claim_model.specs.Journal.{JournalAtRest, Kept}
+use Rattle.claim_model.specs.Journal.{PharmacySettings, opening_rule, JournalAtRest, Kept}
 use Rattle.envelope.specs.Envelope.{longest_payload}
 use Rattle.pharmacy_journal.specs.Retry.{Rule, phases_of}
 use Rattle.pharmacy_journal.specs.Reading.{is_own_request, settles_with}
@@ -23,12 +23,16 @@ is_row j request answer = nat_lt (length j.entries) j.settings.cap && (is_own_re
 unfoldable pub added : JournalAtRest → List ℕ → Option (List ℕ) → Option JournalAtRest
 added j request answer =
     if is_row j request answer
-    then Some (record { number = j.number; settings = j.settings; entries = j.entries ++ record { request = request; answer = answer } ∷ [] })
+    then Some (record { number = j.number; settings = j.settings; rule = j.rule; entries = j.entries ++ record { request = request; answer = answer } ∷ [] })
     else None
+
+-- a journal without entries, as settings open it
+abbrev pub empty_journal : ℕ → PharmacySettings → JournalAtRest
+empty_journal number settings = record { number = number; settings = settings; rule = opening_rule settings; entries = [] }
 
 -- the journal without its entries
 abbrev pub without_entries : JournalAtRest → JournalAtRest
-without_entries j = record { number = j.number; settings = j.settings; entries = [] }
+without_entries j = record { number = j.number; settings = j.settings; rule = j.rule; entries = [] }
 
 -- the journal with all these entries more, in order
 abbrev pub added_all : Option JournalAtRest → List Kept → Option JournalAtRest

@@ -9,7 +9,7 @@ use Rattle.pharmacy_journal.specs.Places.{places_from}
 
 -- the packet of an entry in a phase
 abbrev pub packet_of : Journal → ℕ → ℕ → List ℕ → Sending
-packet_of j number phase request = record { switch = switch_at j.settings phase; bytes = envelope_text Request (record { pharmacy = j.number; number = number }) request }
+packet_of j number phase request = record { switch = switch_at j.rule phase; bytes = envelope_text Request (record { pharmacy = j.number; number = number }) request }
 
 abbrev pub packet_in : Journal → ℕ → List ℕ → State → List Sending
 packet_in j number request (Waits phase) = packet_of j number phase request ∷ []
@@ -36,7 +36,7 @@ is_due_entry again e = is_due_in again e.state
 
 -- the places of the entries that are due
 abbrev pub due_places : Journal → List ℕ
-due_places j = places_from (is_due_entry j.settings.again) 0 j.entries
+due_places j = places_from (is_due_entry j.rule.again) 0 j.entries
 
 -- their packets, in order
 unfoldable pub due_packets : Journal → List Sending

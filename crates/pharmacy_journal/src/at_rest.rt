@@ -4,15 +4,16 @@ ghost use Rattle.std.specs.Prelude.{◌≡◌, ◌<◌, ◌≤◌, ◌-◌, [], 
 ghost use Rattle.std.specs.Option.{option_copied};
 ghost use Rattle.claim_profile.specs.Readable.{readable_header};
 ghost use Rattle.claim_model.specs.Limits.{most_entries};
-ghost use Rattle.claim_model.specs.Journal.{stopped, started, is_own};
+ghost use Rattle.claim_model.specs.Journal.{stopped, started, is_own, with_rule};
 ghost use Rattle.pharmacy_journal.specs.Settings.{rule_of};
 ghost use Rattle.pharmacy_journal.specs.Retry.{phases_of};
 ghost use Rattle.pharmacy_journal.specs.Reading.{is_own_request};
-ghost use Rattle.pharmacy_journal.specs.Resting.{added, IsMadeByAdding, RefusesWhere, is_row, is_kept_answer, restarted_rounds, with_restarted};
+ghost use Rattle.pharmacy_journal.specs.Resting.{added, IsMadeByAdding, RefusesWhere, is_row, is_kept_answer, restarted_rounds, with_restarted, empty_journal};
 ghost use Rattle.pharmacy_journal.specs.Entries.{kept_of, next_id, IsEntry};
 
 use crate::fault::{RowFault, SettleFault};
 use crate::pharmacy::{Pharmacy, first_timetable};
+use crate::rule::RetryRule;
 use crate::settings::PharmacySettings;
 use crate::slot::Slot;
 use crate::timetable::Timetable;
@@ -29,6 +30,7 @@ use std::marker::Model;
 pub struct JournalAtRest {
     pub(crate) number: u16,
     pub(crate) settings: PharmacySettings,
+    pub(crate) rule: RetryRule,
     pub(crate) slots: Vec<Slot>,
 }
 
@@ -40,9 +42,9 @@ impl Model for JournalAtRest {
 
     ghost use Rattle.pharmacy_journal.specs.Entries.{kept_of, IsAtRest};
 
-    ghost view = { λ j. record { number = j.number; settings = j.settings; entries = map kept_of j.slots.items } };
+    ghost view = { λ j. record { number = j.number; settings = j.settings; rule = j.rule; entries = map kept_of j.slots.items } };
 
-    ghost invariant = { λ j. IsAtRest j.number j.settings j.slots.items };
+    ghost invariant = { λ j. IsAtRest j.number j.settings j.rule j.slots.items };
 }
 
 impl Pharmacy {
@@ -53,12 +55,14 @@ impl Pharmacy {
         let Pharmacy {
             number,
             settings,
+            rule,
             timetable: _,
             slots,
         } = self;
         JournalAtRest {
             number,
             settings,
+            rule,
             slots,
         }
     }
@@ -66,17 +70,44 @@ impl Pharmacy {
 
 impl JournalAtRest {
     /// A journal without entries of the pharmacy of this number. Number and list of switches are not
-    /// empty. Nothing is taken from `alloc` before the first entry.
-    pub fn new(alloc: Global, number: u16, settings: PharmacySettings) -> JournalAtRest
+    /// empty.
+    pub fn new(
+        alloc: Global,
+        number: u16,
+        settings: PharmacySettings,
+    ) -> Result<JournalAtRest, AllocError>
         requires some_number { 0 < number }
         requires some_node { 0 < length settings.nodes }
-        ensures { result ≡ record { number = number; settings = settings; entries = [] } }
+        ensures { IfOk result (λ j. j ≡ empty_journal number settings) }
     {
         let _again = settings.again();
+        let rule = settings.rule().copy()?;
+        let _going = rule.again();
+        Ok(JournalAtRest {
+            number,
+            settings,
+            rule,
+            slots: Vec::new(alloc),
+        })
+    }
+
+    /// The same journal, which goes by another rule of retries, whose list of switches is not empty.
+    pub fn with_rule(self, rule: RetryRule) -> JournalAtRest
+        requires { 0 < length rule.nodes }
+        ensures { result ≡ with_rule rule self }
+    {
+        let _going = rule.again();
+        let JournalAtRest {
+            number,
+            settings,
+            rule: _,
+            slots,
+        } = self;
         JournalAtRest {
             number,
             settings,
-            slots: Vec::new(alloc),
+            rule,
+            slots,
         }
     }
 
@@ -86,16 +117,18 @@ impl JournalAtRest {
         ensures ok { IfOk result (λ p. p ≡ started self) }
         ensures err { IfErr result (λ e. e.0 ≡ self) }
     {
-        match restarted(*self.slots.allocator(), &self.settings, &self.slots) {
+        match restarted(*self.slots.allocator(), &self.rule, &self.slots) {
             Ok(timetable) => {
                 let JournalAtRest {
                     number,
                     settings,
+                    rule,
                     slots,
                 } = self;
                 Ok(Pharmacy {
                     number,
                     settings,
+                    rule,
                     timetable,
                     slots,
                 })
@@ -118,6 +151,14 @@ impl JournalAtRest {
         ensures some_node { 0 < length result.now.nodes }
     {
         &self.settings
+    }
+
+    /// The rule of retries that it goes by.
+    pub fn rule(&self) -> &RetryRule
+        ensures value { result.now ≡ self.now.rule }
+        ensures some_node { 0 < length result.now.nodes }
+    {
+        &self.rule
     }
 
     /// What it was opened with, where the journal is no longer needed.
@@ -239,15 +280,15 @@ fn kept_answer(request: &[u8], answer: &[u8]) -> Result<(), RowFault>
 }
 
 /// The timetable of a pharmacy that starts.
-fn restarted(
+pub(crate) fn restarted(
     alloc: Global,
-    settings: &PharmacySettings,
+    rule: &RetryRule,
     slots: &[Slot],
 ) -> Result<Timetable, AllocError>
-    requires { 0 < length settings.now.nodes }
-    ensures { IfOk result (λ t. t ≡ restarted_rounds (rule_of settings.now) slots.now) }
+    requires { 0 < length rule.now.nodes }
+    ensures { IfOk result (λ t. t ≡ restarted_rounds (rule_of rule.now) slots.now) }
 {
-    let mut timetable = first_timetable(alloc, settings)?;
+    let mut timetable = first_timetable(alloc, rule)?;
     let phase = timetable.last_round();
     for slot in slots {
         enter_again(&mut timetable, slot, phase)?;

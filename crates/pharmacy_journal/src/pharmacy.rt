@@ -4,13 +4,14 @@ ghost use Rattle.std.specs.Prelude.{◌≡◌, ◌<◌, ◌≤◌, ◌++◌, len
 ghost use Rattle.bin_routes.specs.Table.{RouteMaps};
 ghost use Rattle.claim_model.specs.Bytes.{bytes_with};
 ghost use Rattle.claim_model.specs.Limits.{most_entries};
-ghost use Rattle.claim_model.specs.Journal.{ticked, due, stopped};
+ghost use Rattle.claim_model.specs.Journal.{opening_rule, ticked, due, stopped};
 ghost use Rattle.claim_model.specs.Node.{to_switch};
 ghost use Rattle.pharmacy_journal.specs.Idle.{is_idle};
 ghost use Rattle.pharmacy_journal.specs.Resting.{added_all};
 ghost use Rattle.pharmacy_journal.specs.Sendings.{due_packets, sent_at};
 ghost use Rattle.pharmacy_journal.specs.Settings.{rule_of};
 
+use crate::rule::RetryRule;
 use crate::sent::{ForSwitch, Sent};
 use crate::settings::PharmacySettings;
 use crate::slot::Slot;
@@ -24,6 +25,7 @@ use std::marker::Model;
 pub struct Pharmacy {
     pub(crate) number: u16,
     pub(crate) settings: PharmacySettings,
+    pub(crate) rule: RetryRule,
     pub(crate) timetable: Timetable,
     pub(crate) slots: Vec<Slot>,
 }
@@ -36,9 +38,14 @@ impl Model for Pharmacy {
     ghost use Rattle.pharmacy_journal.specs.Entries.{entries_of, IsUp};
 
     ghost view = { λ p.
-        record { number = p.number; settings = p.settings; entries = entries_of p.slots.items p.timetable.phases } };
+        record {
+          number = p.number;
+          settings = p.settings;
+          rule = p.rule;
+          entries = entries_of p.slots.items p.timetable.phases;
+        } };
 
-    ghost invariant = { λ p. IsUp p.number p.settings p.timetable p.slots.items };
+    ghost invariant = { λ p. IsUp p.number p.settings p.rule p.timetable p.slots.items };
 }
 
 impl Pharmacy {
@@ -51,12 +58,15 @@ impl Pharmacy {
     ) -> Result<Pharmacy, AllocError>
         requires some_number { 0 < number }
         requires some_node { 0 < length settings.nodes }
-        ensures { IfOk result (λ p. p ≡ record { number = number; settings = settings; entries = [] }) }
+        ensures { IfOk result (λ p. p
+            ≡ record { number = number; settings = settings; rule = opening_rule settings; entries = [] }) }
     {
-        let timetable = first_timetable(alloc, &settings)?;
+        let rule = settings.rule().copy()?;
+        let timetable = first_timetable(alloc, &rule)?;
         Ok(Pharmacy {
             number,
             settings,
+            rule,
             timetable,
             slots: Vec::new(alloc),
         })
@@ -78,6 +88,14 @@ impl Pharmacy {
         &self.settings
     }
 
+    /// The rule of retries that it goes by.
+    pub fn rule(&self) -> &RetryRule
+        ensures value { result.now ≡ self.now.rule }
+        ensures some_node { 0 < length result.now.nodes }
+    {
+        &self.rule
+    }
+
     /// How many entries there are.
     pub fn entries(&self) -> usize
         ensures value { result ≡ length self.now.entries }
@@ -85,7 +103,7 @@ impl Pharmacy {
         ensures small { result ≤ most_entries }
         // The entries are such that the journal at rest is made by adding them one by one.
         ensures made { added_all
-            (Some (record { number = self.now.number; settings = self.now.settings; entries = [] }))
+            (Some (record { number = self.now.number; settings = self.now.settings; rule = self.now.rule; entries = [] }))
             (stopped self.now).entries ≡ Some (stopped self.now) }
     {
         self.slots.len()
@@ -151,24 +169,16 @@ impl Pharmacy {
         };
         if let Slot::Waiting(txn) = &self.slots[place] {
             let packet = txn.packet(*sent.allocator())?;
-            sent.push(S::for_switch(self.settings.nodes()[node], packet))?;
+            sent.push(S::for_switch(self.rule.nodes()[node], packet))?;
         }
         Ok(())
     }
 }
 
 /// The timetable of a journal without entries.
-pub(crate) fn first_timetable(
-    alloc: Global,
-    settings: &PharmacySettings,
-) -> Result<Timetable, AllocError>
-    requires { 0 < length settings.now.nodes }
-    ensures { IfOk result (λ t. t ≡ record { rule = rule_of settings.now; phases = [] }) }
+pub(crate) fn first_timetable(alloc: Global, rule: &RetryRule) -> Result<Timetable, AllocError>
+    requires { 0 < length rule.now.nodes }
+    ensures { IfOk result (λ t. t ≡ record { rule = rule_of rule.now; phases = [] }) }
 {
-    Timetable::new(
-        alloc,
-        settings.again(),
-        settings.tries(),
-        settings.nodes().len() as u32,
-    )
+    Timetable::new(alloc, rule.again(), rule.tries(), rule.nodes().len() as u32)
 }

@@ -3,15 +3,14 @@
 ghost use Rattle.std.specs.Prelude.{◌≡◌, ◌≤◌, ◌<◌, ◌↔◌, length, IsOk, IfOk, IsTrue};
 ghost use Rattle.std.specs.List.{list_all};
 ghost use Rattle.d0_header.specs.Field.{is_plain};
+ghost use Rattle.claim_model.specs.Journal.{opening_rule};
 ghost use Rattle.pharmacy_journal.specs.Settings.{settings_of, AreSettings, AreStated, AreWithin};
 
 use crate::fault::SettingFault;
+use crate::rule::RetryRule;
 use claim_model::Limits;
 use std::alloc::AllocError;
 use std::marker::Model;
-
-/// The most ticks of a wait, and the most tries at one node (own).
-const MOST_ROUNDS: u32 = 1_000;
 
 /// The identity of a pharmacy, the switches that it tries in turn, its rule of retries and the most
 /// entries of its journal (own).
@@ -19,21 +18,20 @@ const MOST_ROUNDS: u32 = 1_000;
 pub struct PharmacySettings {
     qualifier: [u8; 2],
     provider: [u8; 15],
-    nodes: Vec<u16>,
-    again: u32,
-    tries: u32,
+    rule: RetryRule,
     cap: u32,
 }
 
 impl Model for PharmacySettings {
     ghost use Rattle.claim_model.specs.Journal.{PharmacySettings as Settings};
+    ghost use Rattle.claim_model.specs.Journal.{opening_rule};
     ghost use Rattle.pharmacy_journal.specs.Settings.{settings_of, AreKept};
 
     ghost Value = { Settings };
 
-    ghost view = { λ s. settings_of s.qualifier s.provider s.nodes.items s.again s.tries s.cap };
+    ghost view = { λ s. settings_of s.qualifier s.provider s.rule.nodes s.rule.again s.rule.tries s.cap };
 
-    ghost invariant = { λ s. AreKept (settings_of s.qualifier s.provider s.nodes.items s.again s.tries s.cap) };
+    ghost invariant = { λ s. AreKept (settings_of s.qualifier s.provider s.rule.nodes s.rule.again s.rule.tries s.cap) };
 }
 
 impl PharmacySettings {
@@ -82,21 +80,17 @@ impl PharmacySettings {
             ↔ AreWithin limits.entries (settings_of qualifier provider nodes.items again tries cap) }
         ensures given { IfOk result (λ s. s ≡ settings_of qualifier provider nodes.items again tries cap) }
     {
-        if !in_limit(again, MOST_ROUNDS)
-            || !in_limit(tries, MOST_ROUNDS)
-            || !in_limit(cap, limits.entries())
-        {
+        if !in_limit(cap, limits.entries()) {
             return Err(SettingFault::BadSetting);
         }
         if !is_plain(&qualifier) || !is_plain(&provider) {
             return Err(SettingFault::BadSetting);
         }
+        let rule = RetryRule::new(nodes, again, tries)?;
         Ok(PharmacySettings {
             qualifier,
             provider,
-            nodes,
-            again,
-            tries,
+            rule,
             cap,
         })
     }
@@ -105,15 +99,13 @@ impl PharmacySettings {
     pub fn copy(&self) -> Result<PharmacySettings, AllocError>
         ensures { IfOk result (λ copy. copy ≡ self.now) }
     {
-        let nodes = Vec::from_slice(*self.nodes.allocator(), self.nodes.as_slice())?;
+        let rule = self.rule.copy()?;
         let qualifier = self.qualifier;
         let provider = self.provider;
         Ok(PharmacySettings {
             qualifier,
             provider,
-            nodes,
-            again: self.again,
-            tries: self.tries,
+            rule,
             cap: self.cap,
         })
     }
@@ -137,7 +129,7 @@ impl PharmacySettings {
         ensures value { result.now ≡ self.now.nodes }
         ensures in_limit { length result.now ≤ 4294967295 }
     {
-        self.nodes.as_slice()
+        self.rule.nodes()
     }
 
     /// After how many ticks an entry is sent again.
@@ -145,7 +137,7 @@ impl PharmacySettings {
         ensures value { result ≡ self.now.again }
         ensures settings { AreSettings self.now }
     {
-        self.again
+        self.rule.again()
     }
 
     /// How often an entry is sent to one switch.
@@ -153,7 +145,14 @@ impl PharmacySettings {
         ensures value { result ≡ self.now.tries }
         ensures settings { AreSettings self.now }
     {
-        self.tries
+        self.rule.tries()
+    }
+
+    /// The rule of retries with which the pharmacy opens.
+    pub fn rule(&self) -> &RetryRule
+        ensures { result.now ≡ opening_rule self.now }
+    {
+        &self.rule
     }
 
     /// The most entries.
@@ -166,7 +165,7 @@ impl PharmacySettings {
 }
 
 /// Whether a number is 1 to `most`.
-fn in_limit(number: u32, most: u32) -> bool
+pub(crate) fn in_limit(number: u32, most: u32) -> bool
     ensures { IsTrue result ↔ ((0 < number) × (number ≤ most)) }
 {
     number > 0 && number <= most

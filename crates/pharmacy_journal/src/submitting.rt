@@ -94,7 +94,7 @@ impl Pharmacy {
         ensures { IfOk result (λ sent. sent ≡ packet_of self.now txn.now.id.number 0 txn.now.request) }
     {
         let packet = txn.packet(*self.slots.allocator())?;
-        Ok(Sent::new(self.settings.nodes()[0], packet))
+        Ok(Sent::new(self.rule.nodes()[0], packet))
     }
 
     /// Enters a transaction at the next number.

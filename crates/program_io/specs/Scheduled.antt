@@ -2,7 +2,6 @@
 use Rattle.std.specs.Prelude.{◌≡◌, ℕ, Bool, ◌&&◌, List, length, Option, Some, None, is_none, Result, Ok, Err, if◌then◌else◌}
 use Rattle.std.specs.Str.Lines.{lines}
 use Rattle.bin_routes.specs.Fault.{first_fault}
-use Rattle.bin_routes.specs.Table.{routes_of}
 use Rattle.claim_model.specs.Settings.{settings_fault, opening}
 use Rattle.world_setup.specs.declared.event.Event.{Event}
 use Rattle.world_setup.specs.declared.settings.WorldSettings.{WorldSettings}
@@ -14,6 +13,7 @@ use Rattle.schedule.specs.Division.{settings_text, schedule_lines}
 use Rattle.schedule.specs.Reading.{events_of, living_events_of}
 use Rattle.program_io.specs.declared.fault.InputFault.{InputFault}
 use Rattle.program_io.specs.declared.fault.InputFault.TheVariants.{Settings, Line}
+use Rattle.world_setup.specs.Taken.{routes_with}
 
 -- a world takes the settings: neither its nodes nor a row of routes is at fault
 abbrev pub is_taken : Document → Bool
@@ -21,7 +21,7 @@ is_taken d = is_none (settings_fault d.world) && is_none (first_fault (length d.
 
 -- the opening world of settings, with their routes
 abbrev pub opened_world : Document → WorldParts
-opened_world d = record { routes = routes_of d.routes; world = opening d.world }
+opened_world d = record { routes = routes_with d.world d.routes; world = opening d.world }
 
 abbrev pub opened_by : Document → Option WorldParts
 opened_by d = if is_taken d then Some (opened_world d) else None

@@ -113,7 +113,8 @@ left_set (l ∷ logs) (suc k) log r calls e h = let i = left_set logs k log r ca
 pub all_stuck : (packets : List Packet) (lines : List NodeLog) → AllWait packets lines → Stuck packets (calls_of lines)
 all_stuck packets lines w node r calls h e asks =
     let f = calls_found lines node r calls h in
-    w f.place f.log f.at r calls f.calls_are e (subst (λ (x : Node). Asks packets e x r) (sym f.node_is) asks)
+    let a : Asks packets e f.log.node r = subst (λ (x : Node). Asks packets e x r) (sym f.node_is) asks in
+    w f.place f.log f.at r calls f.calls_are e a.0 a.1
 
 -- an order goes on by one event
 pub made_more : (given : Node → List Logged) (old new : OrderParts) → IsMadeByEvents given old → IsPlaced old new → IsMadeByEvents given new

@@ -5,7 +5,6 @@ use Rattle.std.specs.List.{AllByRecursion}
 use Rattle.std.proofs.lemmas.Bool.{or_parts, both_ways, cases_eq, cond-false}
 use Rattle.std.proofs.lemmas.List.{append-nil}
 use Rattle.bin_routes.specs.Fault.{first_fault}
-use Rattle.bin_routes.specs.Table.{routes_of}
 use Rattle.claim_model.specs.Context.{Context}
 use Rattle.claim_model.specs.Bytes.{bytes_with}
 use Rattle.claim_model.specs.Numbered.{numbered}
@@ -30,6 +29,7 @@ use Rattle.run_merge.proofs.Soundness.{sound, ordered, fits_none}
 use Rattle.run_merge.proofs.Lines.{calls_at, calls_found}
 use Rattle.run_merge.proofs.Covering.{log_at, has_one, once_by, once_distinct}
 use Rattle.run_merge.proofs.Places.{found_at, get_below}
+use Rattle.world_setup.specs.Taken.{routes_in}
 
 -- what makes an interleaving
 
@@ -109,21 +109,21 @@ pub not_each : (s : Given) (logs : List Kept) → (EachHasLog (settings_seen s) 
 not_each s logs n es m = n m.legal.one.each
 
 pub not_distinct : (s : Given) (logs : List Kept) → all_distinct (logs_seen logs) ≡ false → NoMerge s (logs_seen logs)
-not_distinct s logs h es m = both_ways (all_distinct (logs_seen logs)) h (legal_distinct (bytes_with (routes_of s.routes.items)) (settings_seen s) (logs_seen logs) es m.legal)
+not_distinct s logs h es m = both_ways (all_distinct (logs_seen logs)) h (legal_distinct (bytes_with (routes_in s)) (settings_seen s) (logs_seen logs) es m.legal)
 
-pub not_fit : (s : Given) (logs : List Kept) → (AllFit (bytes_with (routes_of s.routes.items)) (settings_seen s) (logs_seen logs) → ⊥) → NoMerge s (logs_seen logs)
-not_fit s logs n es m = n (legal_fits (bytes_with (routes_of s.routes.items)) (settings_seen s) (logs_seen logs) es m.legal)
+pub not_fit : (s : Given) (logs : List Kept) → (AllFit (bytes_with (routes_in s)) (settings_seen s) (logs_seen logs) → ⊥) → NoMerge s (logs_seen logs)
+not_fit s logs n es m = n (legal_fits (bytes_with (routes_in s)) (settings_seen s) (logs_seen logs) es m.legal)
 
 pub no_order : (s : Given) (logs : List Kept) → NoOrder (calls_of (logs_seen logs)) → NoMerge s (logs_seen logs)
-no_order s logs n es m = n es (legal_order (bytes_with (routes_of s.routes.items)) (settings_seen s) (logs_seen logs) es m.legal)
+no_order s logs n es m = n es (legal_order (bytes_with (routes_in s)) (settings_seen s) (logs_seen logs) es m.legal)
 
 pub merged_as : (s : Given) (logs : List Kept) (es : List Event) → settings_fault (settings_seen s) ≡ None → first_fault (length s.payers.items) s.routes.items ≡ None → EachHasLog (settings_seen s) (logs_seen logs) → all_distinct (logs_seen logs) ≡ true
-    → AllFit (bytes_with (routes_of s.routes.items)) (settings_seen s) (logs_seen logs) → InOrder (calls_of (logs_seen logs)) es → IsMerged s (logs_seen logs) es
-merged_as s logs es w r n d f o = record { nodes = w; rows = r; legal = is_legal (bytes_with (routes_of s.routes.items)) (settings_seen s) (logs_seen logs) es n d f o }
+    → AllFit (bytes_with (routes_in s)) (settings_seen s) (logs_seen logs) → InOrder (calls_of (logs_seen logs)) es → IsMerged s (logs_seen logs) es
+merged_as s logs es w r n d f o = record { nodes = w; rows = r; legal = is_legal (bytes_with (routes_in s)) (settings_seen s) (logs_seen logs) es n d f o }
 
 -- what an order of the calls shows
 pub order_merged : (s : Given) (logs : List Kept) (es : List Event) (sent : List Packet) → settings_fault (settings_seen s) ≡ None → first_fault (length s.payers.items) s.routes.items ≡ None → EachHasLog (settings_seen s) (logs_seen logs)
-    → all_distinct (logs_seen logs) ≡ true → AllFit (bytes_with (routes_of s.routes.items)) (settings_seen s) (logs_seen logs) → Completes (calls_of (logs_seen logs)) es sent → IsMerged s (logs_seen logs) es
+    → all_distinct (logs_seen logs) ≡ true → AllFit (bytes_with (routes_in s)) (settings_seen s) (logs_seen logs) → Completes (calls_of (logs_seen logs)) es sent → IsMerged s (logs_seen logs) es
 order_merged s logs es sent w r n d f h = merged_as s logs es w r n d f (record { sent = sent; leads = h })
 
 -- loops over logs

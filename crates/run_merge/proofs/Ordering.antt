@@ -4,7 +4,7 @@ use Rattle.std.specs.Prelude.{option_map}
 use Rattle.std.proofs.lemmas.Bool.{cond-true, cond-false}
 use Rattle.claim_model.specs.Numbered.{numbered}
 use Rattle.claim_model.specs.Node.{Node}
-use Rattle.claim_model.specs.World.{Packet, Event, Submission, Ticking, Delivery, Stopping, Starting, PlanChange, Adjudication, packet_from, posted}
+use Rattle.claim_model.specs.World.{Packet, Event, Submission, Ticking, Delivery, Stopping, Starting, Revising, Adjudication, packet_from, posted}
 use Rattle.claim_model.specs.Nodes.{same_node, Asked, taking, adjudicating, asked}
 use Rattle.claim_model.specs.Logs.{Logged}
 use Rattle.run_merge.specs.Order.{advanced, Asks, Leads, Stuck, none_left}
@@ -130,7 +130,7 @@ stays packets many (Ticking n) a all h = (Ticking n, h)
 stays packets many (Delivery k) a all h = stays_delivery k packets many a (numbered packets k) all refl h
 stays packets many (Stopping node) a all h = (Stopping node, h)
 stays packets many (Starting node) a all h = (Starting node, h)
-stays packets many (PlanChange n change) a all h = (PlanChange n change, h)
+stays packets many (Revising n change) a all h = (Revising n change, h)
 stays packets many (Adjudication k advice) a all h = stays_adjudication k advice packets many a (numbered packets k) all refl h
 
 -- a stuck order is finished, where any order is
@@ -175,8 +175,8 @@ walks : (many : List Packet) (left : Node → List Logged) → Stuck many left �
     → (made : List Logged) → extra node ≡ made → left m ≡ []
 walks many left stuck packets rest e extra node r calls m asks head splits old new goes_on [] is =
     let h : left node ≡ r ∷ calls = ap (λ (x : List Logged). x ++ left node) (sym is) ∙ (sym (splits node) ∙ head) in
-    let f = stays packets many e (record { node = node; call = r.call }) old asks in
-    absurd (stuck node r calls h f.0 f.1)
+    let f = stays packets many e (record { node = node; call = r.call }) old asks.0 in
+    absurd (stuck node r calls h f.0 (f.1, asks.1))
 walks many left stuck packets rest e extra node r calls m asks head splits old new goes_on (q ∷ fewer) is =
     let h : r ∷ calls ≡ q ∷ (fewer ++ left node) = sym head ∙ (splits node ∙ ap (λ (x : List Logged). x ++ left node) is) in
     let first : r ≡ q = cc in

@@ -1,15 +1,21 @@
 -- Orders of calls that each node by itself accepts are runs, and runs are such orders.
-use Rattle.std.proofs.Common.{◌≡◌, cond, List, [], ◌∷◌, ◌++◌, Option, Some, None, refl, sym, ap, ◌∙◌, subst, inl, inr}
+use Rattle.std.proofs.Common.{◌≡◌, ℕ, true, false, cond, List, [], ◌∷◌, ◌++◌, Option, Some, None, refl, sym, ap, ◌∙◌, subst, inl, inr}
 use Rattle.std.proofs.lemmas.Bool.{cond-true, cond-false}
+use Rattle.std.specs.Prelude.{option_map}
 use Rattle.claim_model.specs.Context.{Context}
-use Rattle.claim_model.specs.Node.{Node, Sent, Outcome, Done, Refused}
+use Rattle.claim_model.specs.Words.{Change}
+use Rattle.claim_model.specs.Numbered.{numbered}
+use Rattle.claim_model.specs.Journal.{Journal, JournalAtRest, RetryRule}
+use Rattle.claim_model.specs.Table.{Table}
+use Rattle.claim_model.specs.Rows.{Book}
+use Rattle.claim_model.specs.Node.{Node, Pharmacy, Switch, Payer, Call, Submit, Tick, Take, Stop, Start, Revise, Revision, OfPlan, OfRule, Adjudicate, Power, Up, AtRest, Sent, Outcome, Done, Refused, pharmacy_step, switch_step, payer_step}
 use Rattle.claim_model.specs.World.{World, Packet, Event, posted, on_node, step, world_after, run}
-use Rattle.claim_model.specs.Nodes.{AnyNode, node_step, node_at, called, same_node, Asked, asked, asked_step}
+use Rattle.claim_model.specs.Nodes.{AnyNode, OfPharmacy, OfSwitch, OfPayer, as_node, node_step, node_at, called, same_node, Asked, asked, asked_step}
 use Rattle.claim_model.specs.Local.{Follows}
 use Rattle.claim_model.specs.Logs.{Logged, logged_by, log_in}
 use Rattle.claim_model.specs.Interleavings.{IsDone, AllAccepted}
 use Rattle.node_log.specs.Fits.{FitsBy, Fits}
-use Rattle.run_merge.specs.Order.{advanced, Asks, Leads, none_left}
+use Rattle.run_merge.specs.Order.{advanced, revises, suits, Asks, Leads, none_left}
 use Rattle.run_merge.specs.Merged.{FitsThere}
 use Rattle.claim_model.proofs.Options.{same_some}
 use Rattle.claim_model.proofs.PharmacyStep.{done_same}
@@ -100,13 +106,13 @@ sound ctx w rest (e ∷ es) sent left f l =
     let x = first_there ctx (node_at w node) r calls (subst (λ (y : List Logged). FitsThere ctx (node_at w node) y) l.4 (f node)) in
     let k = accepted ctx w node r.call x.after r.sent (ap (λ (o : Option AnyNode). called ctx o r.call) x.is ∙ x.steps) in
     let y = follows ctx w k.0 node r.call r.sent k.1 in
-    let st : step ctx w e ≡ Done k.0 r.sent = call_of ctx w e (record { node = node; call = r.call }) l.3 ∙ k.1 in
+    let st : step ctx w e ≡ Done k.0 r.sent = call_of ctx w e (record { node = node; call = r.call }) l.3.0 ∙ k.1 in
     let n : (m : Node) → FitsThere ctx (node_at k.0 m) (advanced rest node calls m) = fits_next ctx w k.0 rest node r calls x.before x.after x.is x.steps x.more f y in
     let i = sound ctx k.0 (advanced rest node calls) es sent left n (subst (λ (ps : List Packet). Leads ps (advanced rest node calls) es sent left) (sym y.posts) l.5) in
     let now : RunsFrom ctx w rest es sent left (Some (record { node = node; call = r.call })) (Done k.0 r.sent) =
     (tt, i.accepted, logged_first rest left (log_in ctx k.0 es) node r calls l.4 i.logs, i.packets) in
     let by_step : RunsFrom ctx w rest es sent left (Some (record { node = node; call = r.call })) (step ctx w e) = subst (λ (o : Outcome World). RunsFrom ctx w rest es sent left (Some (record { node = node; call = r.call })) o) (sym st) now in
-    let all : RunsFrom ctx w rest es sent left (asked w.packets e) (step ctx w e) = subst (λ (a : Option Asked). RunsFrom ctx w rest es sent left a (step ctx w e)) (sym l.3) by_step in
+    let all : RunsFrom ctx w rest es sent left (asked w.packets e) (step ctx w e) = subst (λ (a : Option Asked). RunsFrom ctx w rest es sent left a (step ctx w e)) (sym l.3.0) by_step in
     record { accepted = (all.0, all.1); logs = all.2; packets = all.3 }
 
 -- runs are orders of calls that fit
@@ -156,13 +162,59 @@ ordered_first ctx w v e es later node r asks x i =
     let b : Leads (posted w.packets node r.sent) (advanced (logged_then later node r) node (later node)) es i.sent none_left = subst (λ (y : Node → List Logged). Leads (posted w.packets node r.sent) y es i.sent none_left) eq a in
     record { fits = fits_first ctx w v later node r x i.fits; sent = i.sent; leads = (node, r, later node, asks, h, b) }
 
+-- a node of another kind refuses a revision
+
+not_plan : (ctx : Context) (node : Power Journal JournalAtRest) (change : Change) (after : AnyNode) (sent : List Sent) → as_node OfPharmacy (pharmacy_step ctx node (Revise (OfPlan change))) ≡ Done after sent → false ≡ true
+not_plan ctx (Up j) change after sent h = absurd cc
+not_plan ctx (AtRest j) change after sent h = absurd cc
+
+not_rule : (ctx : Context) (node : Power Book Book) (rule : RetryRule) (after : AnyNode) (sent : List Sent) → as_node OfPayer (payer_step ctx node (Revise (OfRule rule))) ≡ Done after sent → false ≡ true
+not_rule ctx (Up b) rule after sent h = absurd cc
+not_rule ctx (AtRest b) rule after sent h = absurd cc
+
+not_revision : (ctx : Context) (node : Power Table ℕ) (revision : Revision) (after : AnyNode) (sent : List Sent) → as_node OfSwitch (switch_step ctx node (Revise revision)) ≡ Done after sent → false ≡ true
+not_revision ctx (Up t) revision after sent h = absurd cc
+not_revision ctx (AtRest cap) revision after sent h = absurd cc
+
+planned_at : (ctx : Context) (o : Option (Power Journal JournalAtRest)) (change : Change) (before after : AnyNode) (sent : List Sent) → option_map OfPharmacy o ≡ Some before → node_step ctx before (Revise (OfPlan change)) ≡ Done after sent → false ≡ true
+planned_at ctx None change before after sent was h = absurd cc
+planned_at ctx (Some node) change before after sent was h =
+    not_plan ctx node change after sent (ap (λ x. node_step ctx x (Revise (OfPlan change))) (same_some (OfPharmacy node) before was) ∙ h)
+
+ruled_at : (ctx : Context) (o : Option (Power Book Book)) (rule : RetryRule) (before after : AnyNode) (sent : List Sent) → option_map OfPayer o ≡ Some before → node_step ctx before (Revise (OfRule rule)) ≡ Done after sent → false ≡ true
+ruled_at ctx None rule before after sent was h = absurd cc
+ruled_at ctx (Some node) rule before after sent was h =
+    not_rule ctx node rule after sent (ap (λ x. node_step ctx x (Revise (OfRule rule))) (same_some (OfPayer node) before was) ∙ h)
+
+revised_at : (ctx : Context) (o : Option (Power Table ℕ)) (revision : Revision) (before after : AnyNode) (sent : List Sent) → option_map OfSwitch o ≡ Some before → node_step ctx before (Revise revision) ≡ Done after sent → false ≡ true
+revised_at ctx None revision before after sent was h = absurd cc
+revised_at ctx (Some node) revision before after sent was h =
+    not_revision ctx node revision after sent (ap (λ x. node_step ctx x (Revise revision)) (same_some (OfSwitch node) before was) ∙ h)
+
+suited_revision : (ctx : Context) (w : World) (node : Node) (revision : Revision) (before after : AnyNode) (sent : List Sent) → node_at w node ≡ Some before → node_step ctx before (Revise revision) ≡ Done after sent → revises node revision ≡ true
+suited_revision ctx w (Pharmacy n) (OfPlan change) before after sent was h = planned_at ctx (numbered w.pharmacies n) change before after sent was h
+suited_revision ctx w (Pharmacy n) (OfRule rule) before after sent was h = refl
+suited_revision ctx w (Switch n) revision before after sent was h = revised_at ctx (numbered w.switches n) revision before after sent was h
+suited_revision ctx w (Payer n) (OfPlan change) before after sent was h = refl
+suited_revision ctx w (Payer n) (OfRule rule) before after sent was h = ruled_at ctx (numbered w.payers n) rule before after sent was h
+
+-- a call that a node accepted is one that suits it
+suited : (ctx : Context) (w : World) (node : Node) (call : Call) (before after : AnyNode) (sent : List Sent) → node_at w node ≡ Some before → node_step ctx before call ≡ Done after sent → suits node call ≡ true
+suited ctx w node (Submit text) before after sent was h = refl
+suited ctx w node Tick before after sent was h = refl
+suited ctx w node (Take from bytes) before after sent was h = refl
+suited ctx w node Stop before after sent was h = refl
+suited ctx w node Start before after sent was h = refl
+suited ctx w node (Revise revision) before after sent was h = suited_revision ctx w node revision before after sent was h
+suited ctx w node (Adjudicate from bytes advice) before after sent was h = refl
+
 ordered_by : (ctx : Context) (w : World) (e : Event) (es : List Event) (o : Outcome World) (a : Option Asked) → step ctx w e ≡ o → asked w.packets e ≡ a → IsDone o → Ordered ctx (world_after w o) es (log_in ctx (world_after w o) es)
     → Ordered ctx w (e ∷ es) (λ m. logged_by m a o ++ log_in ctx (world_after w o) es m)
 ordered_by ctx w e es (Refused why) a st is h i = absurd h
 ordered_by ctx w e es (Done v sent) None st is h i = let a = step_made ctx w v e sent st in let f : None ≡ Some a.0 = sym is ∙ a.1 in absurd cc
 ordered_by ctx w e es (Done v sent) (Some a) st is h i =
     let x = follows ctx w v a.node a.call sent (sym (call_of ctx w e a is) ∙ st) in
-    ordered_first ctx w v e es (log_in ctx v es) a.node (record { call = a.call; sent = sent }) is x i
+    ordered_first ctx w v e es (log_in ctx v es) a.node (record { call = a.call; sent = sent }) (is, suited ctx w a.node a.call x.before x.after sent x.was x.steps) x i
 
 -- a run whose events are all accepted is an order of the calls of its logs, which fit
 pub ordered : (ctx : Context) (w : World) (es : List Event) → AllAccepted ctx w es → Ordered ctx w es (log_in ctx w es)

@@ -6,7 +6,7 @@ use Rattle.claim_model.specs.World.{Packet, Event, posted}
 use Rattle.claim_model.specs.Logs.{Logged, NodeLog}
 use Rattle.claim_model.specs.Nodes.{asked}
 use Rattle.run_merge.specs.Naming.{calls_of, all_distinct}
-use Rattle.run_merge.specs.Order.{Asks, Leads}
+use Rattle.run_merge.specs.Order.{Asks, Leads, suits}
 
 -- no packet of these is this one
 abbrev pub IsAbsent : List Packet → Packet → Type 0
@@ -14,11 +14,11 @@ IsAbsent packets p = (k : ℕ) → numbered packets k ≡ Some p → ⊥
 
 -- no event makes this call, where these packets were sent
 abbrev pub NoEvent : List Packet → Node → Call → Type 0
-NoEvent packets node call = (e : Event) → asked packets e ≡ Some (record { node = node; call = call }) → ⊥
+NoEvent packets node call = (e : Event) → asked packets e ≡ Some (record { node = node; call = call }) → suits node call ≡ true → ⊥
 
 -- an event makes this call
 abbrev pub Does : List Packet → Node → Call → Event → Type 0
-Does packets node call e = asked packets e ≡ Some (record { node = node; call = call })
+Does packets node call e = (asked packets e ≡ Some (record { node = node; call = call })) × (suits node call ≡ true)
 
 -- no event makes the next call of a log, if there is one
 abbrev pub Waits : List Packet → NodeLog → Type 0

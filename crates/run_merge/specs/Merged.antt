@@ -2,7 +2,6 @@
 use Rattle.std.specs.Prelude.{◌≡◌, ℕ, List, [], length, map, slice_get, true, Option, Some, None, IsSome, MatchOption}
 use Rattle.std.specs.Global.{Vec}
 use Rattle.bin_routes.specs.Fault.{first_fault}
-use Rattle.bin_routes.specs.Table.{routes_of}
 use Rattle.claim_model.specs.Context.{Context}
 use Rattle.claim_model.specs.Bytes.{bytes_with}
 use Rattle.claim_model.specs.Settings.{settings_fault, opening}
@@ -19,16 +18,17 @@ use Rattle.node_log.specs.There.{is_there}
 use Rattle.node_log.specs.Fits.{Fits}
 use Rattle.run_merge.specs.declared.history.MergeFault.{MergeFault}
 use Rattle.run_merge.specs.declared.history.MergeFault.TheVariants.{OutOfMemory, Tangled}
+use Rattle.world_setup.specs.Taken.{routes_in}
 
 -- all packets that are sent in the run of these events
 abbrev pub packets_after : WorldSettings → List Event → List Packet
-packets_after s events = (run (bytes_with (routes_of s.routes.items)) (opening (settings_seen s)) events).packets
+packets_after s events = (run (bytes_with (routes_in s)) (opening (settings_seen s)) events).packets
 
 -- a legal interleaving of logs, in a world that such settings make
 pub record IsMerged (s : WorldSettings) (logs : List NodeLog) (events : List Event) : Type 0 where
   pub nodes : settings_fault (settings_seen s) ≡ None
   pub rows : first_fault (length s.payers.items) s.routes.items ≡ None
-  pub legal : IsInterleaving (bytes_with (routes_of s.routes.items)) (settings_seen s) logs events
+  pub legal : IsInterleaving (bytes_with (routes_in s)) (settings_seen s) logs events
 
 -- no events are a legal interleaving
 abbrev pub NoMerge : WorldSettings → List NodeLog → Type 0

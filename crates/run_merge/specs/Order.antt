@@ -1,6 +1,6 @@
 -- Ordering the calls of logs: which event makes a call, and what is left after it.
-use Rattle.std.specs.Prelude.{◌≡◌, ℕ, ◌+◌, cond, List, [], ◌∷◌, length, Some}
-use Rattle.claim_model.specs.Node.{Node}
+use Rattle.std.specs.Prelude.{◌≡◌, ℕ, ◌+◌, Bool, true, false, cond, List, [], ◌∷◌, length, Some}
+use Rattle.claim_model.specs.Node.{Node, Pharmacy, Switch, Payer, Call, Submit, Tick, Take, Stop, Start, Revise, Revision, OfPlan, OfRule, Adjudicate}
 use Rattle.claim_model.specs.World.{Packet, Event, posted}
 use Rattle.claim_model.specs.Nodes.{same_node, asked}
 use Rattle.claim_model.specs.Logs.{Logged, NodeLog}
@@ -9,9 +9,27 @@ use Rattle.claim_model.specs.Logs.{Logged, NodeLog}
 abbrev pub advanced : (Node → List Logged) → Node → List Logged → Node → List Logged
 advanced rest node more m = cond (same_node node m) more (rest m)
 
+-- a plan is a payer's, and a rule of retries a pharmacy's
+abbrev pub revises : Node → Revision → Bool
+revises (Pharmacy n) (OfPlan change) = false
+revises (Pharmacy n) (OfRule rule) = true
+revises (Switch n) revision = false
+revises (Payer n) (OfPlan change) = true
+revises (Payer n) (OfRule rule) = false
+
+-- a node of this kind may accept a call of this kind, as far as revisions go
+abbrev pub suits : Node → Call → Bool
+suits node (Submit text) = true
+suits node Tick = true
+suits node (Take from bytes) = true
+suits node Stop = true
+suits node Start = true
+suits node (Revise revision) = revises node revision
+suits node (Adjudicate from bytes advice) = true
+
 -- an event makes a call of a node, where these packets were sent
 abbrev pub Asks : List Packet → Event → Node → Logged → Type 0
-Asks packets e node r = asked packets e ≡ Some (record { node = node; call = r.call })
+Asks packets e node r = (asked packets e ≡ Some (record { node = node; call = r.call })) × (suits node r.call ≡ true)
 
 -- events that make the next call of one node after another, from these packets and what is left of each node's calls, lead to those
 abbrev pub Leads : List Packet → (Node → List Logged) → List Event → List Packet → (Node → List Logged) → Type 0

@@ -1,7 +1,6 @@
 //! Merging logs into the events of one run.
 
 ghost use Rattle.std.specs.Prelude.{◌≡◌, ◌+◌, ◌<◌, ◌≤◌, length, map, true, None, Some, IfOk, IfErr};
-ghost use Rattle.bin_routes.specs.Table.{routes_of};
 ghost use Rattle.claim_model.specs.Bytes.{bytes_with};
 ghost use Rattle.claim_model.specs.Limits.{most_pharmacies, most_switches, most_payers};
 ghost use Rattle.claim_model.specs.Settings.{settings_fault};
@@ -12,6 +11,7 @@ ghost use Rattle.node_log.specs.Fits.{Tells};
 ghost use Rattle.node_log.specs.LogSeen.{log_seen, logs_seen};
 ghost use Rattle.run_merge.specs.Merged.{IsMerged, MergeOf, WhereTangled, EachHasLog, FitsAlone, AllFit};
 ghost use Rattle.run_merge.specs.declared.history.MergeFault.TheVariants.{OutOfMemory};
+ghost use Rattle.world_setup.specs.Taken.{routes_in};
 
 use crate::order::in_order;
 use node_log::{NodeLog, fits, is_same_node, is_there};
@@ -147,7 +147,7 @@ fn has_log(node: Node, logs: &[NodeLog]) -> bool
 
 /// Whether each log by itself fits its node.
 fn all_fit(alloc: Global, settings: &CheckedSettings, logs: &[NodeLog]) -> Result<bool, AllocError>
-    ensures { IfOk result (λ yes. Tells yes (AllFit (bytes_with (routes_of settings.now.routes.items))
+    ensures { IfOk result (λ yes. Tells yes (AllFit (bytes_with (routes_in settings.now))
         (settings_seen settings.now) (logs_seen logs.now))) }
 {
     for log in logs {
@@ -160,7 +160,7 @@ fn all_fit(alloc: Global, settings: &CheckedSettings, logs: &[NodeLog]) -> Resul
 
 /// Whether a log is of a node that is there, and fits it.
 fn fits_alone(alloc: Global, settings: &CheckedSettings, log: &NodeLog) -> Result<bool, AllocError>
-    ensures { IfOk result (λ yes. Tells yes (FitsAlone (bytes_with (routes_of settings.now.routes.items))
+    ensures { IfOk result (λ yes. Tells yes (FitsAlone (bytes_with (routes_in settings.now))
         (settings_seen settings.now) (log_seen log.now))) }
 {
     if !is_there(settings.settings(), log.node()) {

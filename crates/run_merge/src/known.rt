@@ -1,12 +1,12 @@
 //! Merging logs that are known to fit their nodes.
 
 ghost use Rattle.std.specs.Prelude.{◌≡◌, map, IfOk, IfErr};
-ghost use Rattle.bin_routes.specs.Table.{routes_of};
 ghost use Rattle.claim_model.specs.Bytes.{bytes_with};
 ghost use Rattle.world_setup.specs.Seen.{event_seen, packet_seen, settings_seen};
 ghost use Rattle.node_log.specs.LogSeen.{logs_seen};
 ghost use Rattle.run_merge.specs.Merged.{AllFit, IsMerged, WhereTangled, packets_after};
 ghost use Rattle.run_merge.specs.MergedRuns.{RunOf};
+ghost use Rattle.world_setup.specs.Taken.{routes_in};
 
 use crate::history::{MergeFault, are_distinct, each_has_log};
 use crate::order::in_order;
@@ -33,7 +33,7 @@ pub fn merge_fitting(
     settings: &CheckedSettings,
     logs: &[NodeLog],
 ) -> Result<MergedRun, MergeFault>
-    requires { AllFit (bytes_with (routes_of settings.now.routes.items)) (settings_seen settings.now)
+    requires { AllFit (bytes_with (routes_in settings.now)) (settings_seen settings.now)
         (logs_seen logs.now) }
     ensures ok { IfOk result (λ run. IsMerged settings.now (logs_seen logs.now) (map event_seen run.events.items)) }
     ensures packets { IfOk result (λ run. map packet_seen run.packets.items
@@ -52,7 +52,7 @@ fn merged_run(
     settings: &CheckedSettings,
     logs: &[NodeLog],
 ) -> Result<Option<MergedRun>, AllocError>
-    requires { AllFit (bytes_with (routes_of settings.now.routes.items)) (settings_seen settings.now)
+    requires { AllFit (bytes_with (routes_in settings.now)) (settings_seen settings.now)
         (logs_seen logs.now) }
     ensures { IfOk result (λ found. RunOf settings.now (logs_seen logs.now) found) }
 {

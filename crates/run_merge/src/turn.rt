@@ -1,8 +1,9 @@
 //! Which event makes a call.
 
 ghost use Rattle.std.specs.Prelude.{IfOk};
-ghost use Rattle.claim_model.specs.Node.{Submit, Tick, Take, Stop, Start, Reprice, Adjudicate};
+ghost use Rattle.claim_model.specs.Node.{Submit, Tick, Take, Stop, Start, Revise, OfPlan, OfRule, Adjudicate};
 ghost use Rattle.claim_model.specs.Words.{SetPrice, SetTerms};
+ghost use Rattle.pharmacy_journal.specs.Ruling.{rule_in};
 ghost use Rattle.world_setup.specs.Seen.{node_seen, call_seen};
 ghost use Rattle.run_merge.specs.Found.{EventFor};
 
@@ -28,6 +29,11 @@ pub(crate) fn event_for<'a>(
         Call::Start => Ok(Some(Event::Start(node))),
         Call::Plan { product, price } => plan(posted, node, product, *price),
         Call::Terms { fee, copay } => Ok(terms(posted, node, *fee, *copay)),
+        Call::Retry {
+            nodes,
+            again,
+            tries,
+        } => retry(posted, node, nodes, *again, *tries),
         Call::Adjudicate {
             from,
             bytes,
@@ -97,7 +103,7 @@ fn plan(
     product: &Octets,
     price: Option<u32>,
 ) -> Result<Option<Event>, AllocError>
-    ensures { IfOk result (λ o. EventFor posted.now (node_seen node) (Reprice (SetPrice product.now price)) o) }
+    ensures { IfOk result (λ o. EventFor posted.now (node_seen node) (Revise (OfPlan (SetPrice product.now price))) o) }
 {
     match node {
         Node::Payer(payer) => Ok(Some(Event::Plan {
@@ -112,11 +118,34 @@ fn plan(
 
 /// A change of the terms of a plan, at a payer.
 fn terms(posted: &Posted<'_>, node: Node, fee: u32, copay: u32) -> Option<Event>
-    ensures { EventFor posted.now (node_seen node) (Reprice (SetTerms fee copay)) result }
+    ensures { EventFor posted.now (node_seen node) (Revise (OfPlan (SetTerms fee copay))) result }
 {
     match node {
         Node::Payer(payer) => Some(Event::Terms { payer, fee, copay }),
         Node::Pharmacy(_) => None,
         Node::Switch(_) => None,
+    }
+}
+
+/// Another rule of retries, at a pharmacy.
+fn retry(
+    posted: &Posted<'_>,
+    node: Node,
+    nodes: &Octets,
+    again: u32,
+    tries: u32,
+) -> Result<Option<Event>, AllocError>
+    ensures { IfOk result
+        (λ o. EventFor posted.now (node_seen node) (Revise (OfRule (rule_in nodes.now again tries))) o) }
+{
+    match node {
+        Node::Pharmacy(pharmacy) => Ok(Some(Event::Retry {
+            pharmacy,
+            nodes: nodes.copy()?,
+            again,
+            tries,
+        })),
+        Node::Switch(_) => Ok(None),
+        Node::Payer(_) => Ok(None),
     }
 }

@@ -6,7 +6,7 @@ use Rattle.std.proofs.lemmas.List.{map-append}
 use Rattle.std.proofs.lemmas.List.Elements.{filter_map-append}
 use Rattle.claim_model.specs.Context.{Context}
 use Rattle.claim_model.specs.Node.{Outcome, Done, Refused}
-use Rattle.claim_model.specs.World.{World, Packet, Event, Submission, Ticking, Delivery, Stopping, Starting, PlanChange, Adjudication, packet_from, step, world_after, run}
+use Rattle.claim_model.specs.World.{World, Packet, Event, Submission, Ticking, Delivery, Stopping, Starting, Revising, Adjudication, packet_from, step, world_after, run}
 use Rattle.claim_model.proofs.Ends.{Unchanged, One_call, ended}
 use Rattle.run_picture.specs.Marks.{Mark, made_mark, sent_marks, event_marks, marks_from}
 use Rattle.run_picture.specs.Counts.{Way, way, sending, arrow, delivered_by, deliveries}
@@ -23,7 +23,7 @@ none_by_head number (Ticking n) more = refl
 none_by_head number (Delivery k) more = refl
 none_by_head number (Stopping node) more = refl
 none_by_head number (Starting node) more = refl
-none_by_head number (PlanChange n change) more = refl
+none_by_head number (Revising n change) more = refl
 none_by_head number (Adjudication k advice) more = refl
 
 -- what an event sent
@@ -76,14 +76,14 @@ arrow_of number posted (Ticking n) (Refused why) = refl
 arrow_of number posted (Delivery k) (Refused why) = refl
 arrow_of number posted (Stopping node) (Refused why) = refl
 arrow_of number posted (Starting node) (Refused why) = refl
-arrow_of number posted (PlanChange n change) (Refused why) = refl
+arrow_of number posted (Revising n change) (Refused why) = refl
 arrow_of number posted (Adjudication k advice) (Refused why) = refl
 arrow_of number posted (Submission n text) (Done next sent) = no_arrows number (posted + 1) (drop posted next.packets)
 arrow_of number posted (Ticking n) (Done next sent) = no_arrows number (posted + 1) (drop posted next.packets)
 arrow_of number posted (Delivery k) (Done next sent) = ap (λ (ks : List ℕ). k ∷ ks) (no_arrows number (posted + 1) (drop posted next.packets))
 arrow_of number posted (Stopping node) (Done next sent) = no_arrows number (posted + 1) (drop posted next.packets)
 arrow_of number posted (Starting node) (Done next sent) = no_arrows number (posted + 1) (drop posted next.packets)
-arrow_of number posted (PlanChange n change) (Done next sent) = no_arrows number (posted + 1) (drop posted next.packets)
+arrow_of number posted (Revising n change) (Done next sent) = no_arrows number (posted + 1) (drop posted next.packets)
 arrow_of number posted (Adjudication k advice) (Done next sent) = ap (λ (ks : List ℕ). k ∷ ks) (no_arrows number (posted + 1) (drop posted next.packets))
 
 pub each_delivery : (ctx : Context) (w : World) (number : ℕ) (events : List Event) → filter_map arrow (marks_from ctx w number events) ≡ deliveries ctx w events

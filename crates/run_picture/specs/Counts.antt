@@ -3,8 +3,8 @@ use Rattle.std.specs.Prelude.{◌≡◌, ℕ, List, [], ◌∷◌, ◌++◌, map
 use Rattle.claim_model.specs.Context.{Context}
 use Rattle.claim_model.specs.Node.{Node, Outcome, Done, Refused}
 use Rattle.claim_model.specs.Settings.{WorldSettings, opening}
-use Rattle.claim_model.specs.World.{World, Packet, Event, Delivery, Submission, Ticking, Stopping, Starting, PlanChange, Adjudication, step, world_after, run}
-use Rattle.run_picture.specs.Marks.{Mark, Submitted, Ticked, Arrived, Stopped, Started, Priced, Sent, Turned, marks_from}
+use Rattle.claim_model.specs.World.{World, Packet, Event, Delivery, Submission, Ticking, Stopping, Starting, Revising, Adjudication, step, world_after, run}
+use Rattle.run_picture.specs.Marks.{Mark, Submitted, Ticked, Arrived, Stopped, Started, Revised, Sent, Turned, marks_from}
 
 -- who sent a packet to whom
 abbrev pub Way : Type 0
@@ -21,7 +21,7 @@ sending (Ticked event pharmacy) = None
 sending (Arrived event packet) = None
 sending (Stopped event node) = None
 sending (Started event node) = None
-sending (Priced event payer) = None
+sending (Revised event node) = None
 sending (Turned event name) = None
 
 -- the number of the packet whose arrow ends at a mark
@@ -31,7 +31,7 @@ arrow (Submitted event pharmacy) = None
 arrow (Ticked event pharmacy) = None
 arrow (Stopped event node) = None
 arrow (Started event node) = None
-arrow (Priced event payer) = None
+arrow (Revised event node) = None
 arrow (Sent event packet from to) = None
 arrow (Turned event name) = None
 
@@ -43,7 +43,7 @@ delivered_by (Submission n text) o = []
 delivered_by (Ticking n) o = []
 delivered_by (Stopping node) o = []
 delivered_by (Starting node) o = []
-delivered_by (PlanChange n change) o = []
+delivered_by (Revising n change) o = []
 delivered_by (Adjudication packet advice) (Done next sent) = packet ∷ []
 delivered_by (Adjudication packet advice) (Refused why) = []
 

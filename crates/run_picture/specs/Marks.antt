@@ -2,7 +2,7 @@
 use Rattle.std.specs.Prelude.{ℕ, ◌+◌, List, [], ◌∷◌, ◌++◌, drop, length}
 use Rattle.claim_model.specs.Context.{Context}
 use Rattle.claim_model.specs.Node.{Node, Outcome, Done, Refused}
-use Rattle.claim_model.specs.World.{World, Packet, Event, Submission, Ticking, Delivery, Stopping, Starting, PlanChange, Adjudication, step, world_after}
+use Rattle.claim_model.specs.World.{World, Packet, Event, Submission, Ticking, Delivery, Stopping, Starting, Revising, Adjudication, step, world_after}
 use Rattle.claim_model.specs.Refusal.{refusal_name}
 
 -- a mark of a picture, with the number of its event; a refusal by its name
@@ -12,7 +12,7 @@ pub data Mark : Type 0 where
   Arrived : (event packet : ℕ) → Mark
   Stopped : (event : ℕ) → Node → Mark
   Started : (event : ℕ) → Node → Mark
-  Priced : (event payer : ℕ) → Mark
+  Revised : (event : ℕ) → Node → Mark
   Sent : (event packet : ℕ) → (from to : Node) → Mark
   Turned : (event : ℕ) → (name : List ℕ) → Mark
 
@@ -23,7 +23,7 @@ made_mark number (Ticking n) = Ticked number n
 made_mark number (Delivery k) = Arrived number k
 made_mark number (Stopping node) = Stopped number node
 made_mark number (Starting node) = Started number node
-made_mark number (PlanChange n change) = Priced number n
+made_mark number (Revising node revision) = Revised number node
 made_mark number (Adjudication k advice) = Arrived number k
 
 -- the marks of packets that an event sent, numbered from one on

@@ -11,6 +11,6 @@ mark_seen (mark.Ticked event pharmacy) = told.Ticked event pharmacy
 mark_seen (mark.Arrived event packet) = told.Arrived event packet
 mark_seen (mark.Stopped event node) = told.Stopped event (node_seen node)
 mark_seen (mark.Started event node) = told.Started event (node_seen node)
-mark_seen (mark.Priced event payer) = told.Priced event payer
+mark_seen (mark.Revised event node) = told.Revised event (node_seen node)
 mark_seen (mark.Sent event packet from to) = told.Sent event packet (node_seen from) (node_seen to)
 mark_seen (mark.Refused event fault) = told.Turned event (name_by (refusal_of fault))

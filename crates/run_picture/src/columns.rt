@@ -89,9 +89,9 @@ impl Gaps {
                     self.want(node, side, refusal_of(plan.alloc, fault)?.len());
                 }
             }
-            Mark::Priced { event, payer } if plan.is_drawn(event) => {
+            Mark::Revised { event, node } if plan.is_drawn(event) => {
                 let note = note_of(plan.alloc, plan.events, event)?;
-                self.want(Node::Payer(payer), Side::Right, note.len());
+                self.want(node, Side::Right, note.len());
             }
             _ => {}
         }

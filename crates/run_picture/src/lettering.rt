@@ -3,6 +3,7 @@
 use claim_profile::{Code, Ruling};
 use envelope::TxnId;
 use input_text::{put_decimal, put_printed};
+use pharmacy_journal::switch_numbers;
 use schedule::put_node;
 use std::alloc::AllocError;
 use world_setup::{Event, Node};
@@ -60,6 +61,7 @@ pub(crate) fn put_event(out: &mut Vec<u8>, event: &Event) -> Result<(), AllocErr
         Event::Start(node) => put_call(out, b"start ", *node),
         Event::Plan { payer, .. } => put_call(out, b"plan ", Node::Payer(*payer)),
         Event::Terms { payer, .. } => put_call(out, b"terms ", Node::Payer(*payer)),
+        Event::Retry { pharmacy, .. } => put_call(out, b"retry ", Node::Pharmacy(*pharmacy)),
         Event::Adjudicate { packet, .. } => {
             out.extend_from_slice(b"adjudicate ")?;
             put_decimal(out, *packet)
@@ -94,6 +96,25 @@ pub(crate) fn put_terms(out: &mut Vec<u8>, fee: u32, copay: u32) -> Result<(), A
     put_dollars(out, fee)?;
     out.extend_from_slice(b", copay ")?;
     put_dollars(out, copay)
+}
+
+/// Appends what another rule of retries says: the switches in turn, and how long and how often each.
+pub(crate) fn put_rule(
+    out: &mut Vec<u8>,
+    nodes: &[u8],
+    again: u32,
+    tries: u32,
+) -> Result<(), AllocError> {
+    out.extend_from_slice(b"tries")?;
+    for number in switch_numbers(*out.allocator(), nodes)? {
+        out.extend_from_slice(b" sw")?;
+        put_decimal(out, u64::from(number))?;
+    }
+    out.extend_from_slice(b", each ")?;
+    put_decimal(out, u64::from(tries))?;
+    out.extend_from_slice(b" times, after ")?;
+    put_decimal(out, u64::from(again))?;
+    out.extend_from_slice(b" ticks")
 }
 
 /// Appends a ruling in short: `P` or `D` and the total, `A`, or `R` and the reject codes.

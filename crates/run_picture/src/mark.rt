@@ -30,10 +30,10 @@ pub enum Mark {
         event: u64,
         node: Node,
     },
-    /// A payer changed its plan.
-    Priced {
+    /// A payer changed its plan, or a pharmacy its rule of retries.
+    Revised {
         event: u64,
-        payer: u16,
+        node: Node,
     },
     /// The event sent a packet.
     Sent {

@@ -13,7 +13,7 @@ ghost use Rattle.run_picture.specs.Seen.{mark_seen};
 use crate::mark::Mark;
 use std::alloc::{AllocError, Global};
 use world_core::World;
-use world_setup::{Event, Fault, Packet};
+use world_setup::{Event, Fault, Node, Packet};
 
 /// Makes these events, refused ones included, and gives the marks of the run.
 ///
@@ -91,13 +91,17 @@ fn made_mark(number: u64, event: &Event) -> Mark
             event: number,
             node: *node,
         },
-        Event::Plan { payer, .. } => Mark::Priced {
+        Event::Plan { payer, .. } => Mark::Revised {
             event: number,
-            payer: *payer,
+            node: Node::Payer(*payer),
         },
-        Event::Terms { payer, .. } => Mark::Priced {
+        Event::Terms { payer, .. } => Mark::Revised {
             event: number,
-            payer: *payer,
+            node: Node::Payer(*payer),
+        },
+        Event::Retry { pharmacy, .. } => Mark::Revised {
+            event: number,
+            node: Node::Pharmacy(*pharmacy),
         },
         Event::Adjudicate { packet: taken, .. } => Mark::Arrived {
             event: number,

@@ -108,5 +108,6 @@ fn node_of(event: &Event) -> Option<Node> {
         Event::Stop(node) => Some(*node),
         Event::Start(node) => Some(*node),
         Event::Plan { payer, .. } | Event::Terms { payer, .. } => Some(Node::Payer(*payer)),
+        Event::Retry { pharmacy, .. } => Some(Node::Pharmacy(*pharmacy)),
     }
 }

@@ -42,7 +42,7 @@ pub(crate) fn draw_doings(drawing: &mut Drawing, plan: &Plan<'_>) -> Result<(), 
             Mark::Ticked { event, pharmacy } => {
                 draw_bar(drawing, plan, event, Node::Pharmacy(pharmacy))?
             }
-            Mark::Priced { event, payer } => draw_bar(drawing, plan, event, Node::Payer(payer))?,
+            Mark::Revised { event, node } => draw_bar(drawing, plan, event, node)?,
             Mark::Arrived { event, packet } => {
                 if let Some(departure) = plan.rows.departure(packet) {
                     draw_bar(drawing, plan, event, departure.to)?;
@@ -158,9 +158,9 @@ fn write_mark(drawing: &mut Drawing, plan: &Plan<'_>, mark: &Mark) -> Result<(),
         } => write_label(drawing, plan, packet, from, to),
         Mark::Stopped { event, node } => write_at(drawing, plan, event, node, b"stops"),
         Mark::Started { event, node } => write_at(drawing, plan, event, node, b"starts"),
-        Mark::Priced { event, payer } => {
+        Mark::Revised { event, node } => {
             let note = note_of(plan.alloc, plan.events, event)?;
-            write_at(drawing, plan, event, Node::Payer(payer), note.as_slice())
+            write_at(drawing, plan, event, node, note.as_slice())
         }
         Mark::Refused { event, fault } => write_refusal(drawing, plan, event, fault),
         _ => Ok(()),

@@ -100,7 +100,7 @@ impl Rows {
             Mark::Ticked { event, .. } => self.add_row(event, ROW_REST, hidden),
             Mark::Stopped { event, .. } => self.add_row(event, ROW_REST, hidden),
             Mark::Started { event, .. } => self.add_row(event, ROW_REST, hidden),
-            Mark::Priced { event, .. } => self.add_row(event, ROW_REST, hidden),
+            Mark::Revised { event, .. } => self.add_row(event, ROW_REST, hidden),
             Mark::Arrived { event, packet } => {
                 self.meet(Some(packet));
                 self.add_row(event, ROW_REST, hidden)

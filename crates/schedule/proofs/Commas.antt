@@ -1,11 +1,10 @@
--- Texts at their first comma, and the actions that their parts name.
+-- Texts at their first comma, and what their parts name.
 use Rattle.std.proofs.Common.{◌≡◌, ℕ, ◌+◌, ◌≤◌, List, [], ◌∷◌, ◌++◌, length, take, drop, Option, Some, None, arith}
 use Rattle.std.specs.List.{slice_split, position, position_or_len}
 use Rattle.std.proofs.lemmas.List.Splits.{slice_split_none, slice_split_first}
 use Rattle.std.proofs.lemmas.List.Quantifiers.{position-Some}
 use Rattle.std.proofs.lemmas.List.Sums.{position_or_len_is, fails_before_first}
 use Rattle.input_text.proofs.Splitting.{le_from_None}
-use Rattle.world_setup.specs.declared.link.Action.{Action}
 use Rattle.schedule.specs.Faults.{is_comma}
 
 -- the parts of a text with a comma
@@ -21,7 +20,7 @@ parts_none text nowhere =
     let far : length text ≤ position_or_len is_comma text = le_from_None (length text) (position_or_len is_comma text) nowhere in
     slice_split_none is_comma text (λ k d lt. fails_before_first is_comma text k d (omega arith))
 
--- actions before those that may follow
-abbrev pub before : List Action → Option (List Action) → Option (List Action)
+-- what was read before what may follow
+abbrev pub before : {A : Type 0} → List A → Option (List A) → Option (List A)
 before xs None = None
 before xs (Some ys) = Some (xs ++ ys)

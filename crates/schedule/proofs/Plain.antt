@@ -1,16 +1,17 @@
--- Events of which none is an adjudication or a change of terms are spelled by the same lines where nodes do not live.
-use Rattle.std.proofs.Common.{◌≡◌, ℕ, Bool, true, false, ◌&&◌, cond, List, [], ◌∷◌, Option, Some, None, Result, Ok, Err, refl, sym, ap, ◌∙◌, inl, inr}
+-- Events of which none is an adjudication or a change of terms or of a rule of retries are spelled by the same lines where nodes do not live.
+use Rattle.std.proofs.Common.{◌≡◌, ℕ, Bool, true, false, cond, List, [], ◌∷◌, Option, Some, None, Result, Ok, Err, refl, sym, ap, ◌∙◌}
 use Rattle.std.specs.Prelude.{bytes_eq, codes}
 use Rattle.std.specs.Result.{result_ok}
-use Rattle.std.proofs.lemmas.Bool.{and_parts, cases_Bool}
+use Rattle.std.proofs.lemmas.Bool.{and_parts}
 use Rattle.input_text.specs.Options.{◌>>=◌}
 use Rattle.input_text.specs.Words.{split_word}
 use Rattle.input_text.specs.Decimals.{decimal_number}
 use Rattle.input_text.specs.Printing.{unprinted}
 use Rattle.world_setup.specs.declared.event.Event.{Event}
-use Rattle.world_setup.specs.declared.event.Event.TheVariants.{Terms, Adjudicate}
-use Rattle.schedule.specs.Nodes.{payer_in}
-use Rattle.schedule.specs.Events.{event_with, event_of, adjudication, cents_in, terms_change, living_event_with, living_event_of, has_no_advice, have_no_advice}
+use Rattle.world_setup.specs.declared.event.Event.TheVariants.{Terms, Retry, Adjudicate}
+use Rattle.schedule.specs.Nodes.{pharmacy_in, payer_in}
+use Rattle.schedule.specs.Switches.{switches_in}
+use Rattle.schedule.specs.Events.{event_with, event_of, adjudication, cents_in, terms_change, rule_change, living_event_with, living_event_of, has_no_advice, have_no_advice}
 use Rattle.schedule.specs.Reading.{NumberedLine, told_lines, spelled_in}
 use Rattle.schedule.proofs.EventLists.{joined, first_taken, first_bad, no_lines}
 
@@ -51,9 +52,27 @@ retermed rest e is plain =
     behind (split_word rest) _ e is (λ p named. behind (payer_in p.0) _ e named (λ payer worded. behind (split_word p.1) _ e worded
     (λ words first. behind (cents_in words.0) _ e first (λ fee second. behind (cents_in words.1) _ e second (λ copay last. of_terms payer fee copay e last plain)))))
 
-by_terms : (word rest : List ℕ) (e : Event) (b : Bool) → bytes_eq word (codes "terms") ≡ b → cond (bytes_eq word (codes "terms")) (terms_change rest) (event_with word rest) ≡ Some e → has_no_advice e ≡ true → event_with word rest ≡ Some e
+-- nor is what stands after `retry`
+of_rule : (pharmacy : ℕ) (nodes : List ℕ) (again tries : ℕ) (e : Event) → ◌≡◌ {A = Option Event} (Some (Retry pharmacy nodes again tries)) (Some e) → has_no_advice e ≡ true → ⊥
+of_rule pharmacy nodes again tries e is plain =
+    let same : Retry pharmacy nodes again tries ≡ e = cc in
+    let wrong : false ≡ true = ap has_no_advice same ∙ plain in
+    absurd cc
+
+reruled : (rest : List ℕ) (e : Event) → rule_change rest ≡ Some e → has_no_advice e ≡ true → ⊥
+unfolding rule_change
+reruled rest e is plain =
+    behind (split_word rest) _ e is (λ p named. behind (pharmacy_in p.0) _ e named (λ pharmacy worded. behind (split_word p.1) _ e worded
+    (λ words listed. behind (switches_in words.0) _ e listed (λ nodes numbered. behind (split_word words.1) _ e numbered
+    (λ numbers first. behind (cents_in numbers.0) _ e first (λ again second. behind (cents_in numbers.1) _ e second (λ tries last. of_rule pharmacy nodes again tries e last plain)))))))
+
+by_rule : (word rest : List ℕ) (e : Event) (b : Bool) → bytes_eq word (codes "retry") ≡ b → cond (bytes_eq word (codes "retry")) (rule_change rest) (event_with word rest) ≡ Some e → has_no_advice e ≡ true → event_with word rest ≡ Some e
+by_rule word rest e true same is plain = absurd (reruled rest e (sym (rw same refl) ∙ is) plain)
+by_rule word rest e false same is plain = sym (rw same refl) ∙ is
+
+by_terms : (word rest : List ℕ) (e : Event) (b : Bool) → bytes_eq word (codes "terms") ≡ b → cond (bytes_eq word (codes "terms")) (terms_change rest) (cond (bytes_eq word (codes "retry")) (rule_change rest) (event_with word rest)) ≡ Some e → has_no_advice e ≡ true → event_with word rest ≡ Some e
 by_terms word rest e true same is plain = absurd (retermed rest e (sym (rw same refl) ∙ is) plain)
-by_terms word rest e false same is plain = sym (rw same refl) ∙ is
+by_terms word rest e false same is plain = by_rule word rest e (bytes_eq word (codes "retry")) refl (sym (rw same refl) ∙ is) plain
 
 by_word : (word rest : List ℕ) (e : Event) (b : Bool) → bytes_eq word (codes "adjudicate") ≡ b → living_event_with word rest ≡ Some e → has_no_advice e ≡ true → event_with word rest ≡ Some e
 by_word word rest e true same is plain = absurd (adjudicated rest e (sym (rw same refl) ∙ is) plain)

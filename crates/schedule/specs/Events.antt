@@ -8,8 +8,9 @@ use Rattle.input_text.specs.Words.{split_word}
 use Rattle.input_text.specs.Decimals.{decimal_number}
 use Rattle.input_text.specs.Printing.{unprinted}
 use Rattle.world_setup.specs.declared.event.Event.{Event}
-use Rattle.world_setup.specs.declared.event.Event.TheVariants.{Submit, Tick, Deliver, Stop, Start, Plan, Terms, Adjudicate}
+use Rattle.world_setup.specs.declared.event.Event.TheVariants.{Submit, Tick, Deliver, Stop, Start, Plan, Terms, Retry, Adjudicate}
 use Rattle.schedule.specs.Nodes.{pharmacy_in, payer_in, node_in}
+use Rattle.schedule.specs.Switches.{switches_in}
 
 -- a pharmacy and, after one space, the rest of the line: a request in printed bytes, which may be empty
 unfoldable pub submission : List ℕ → Option Event
@@ -59,7 +60,7 @@ event_with word rest =
 unfoldable pub event_of : List ℕ → Option Event
 event_of line = split_word line >>= (λ parts. event_with parts.0 parts.1)
 
--- ---- of nodes that live: a payer may ask, and its terms may change
+-- ---- of nodes that live: a payer may ask, its terms may change, and so may the rule by which a pharmacy sends again
 
 -- a packet and, after one space, the rest of the line: an advice in printed bytes, which may be empty
 unfoldable pub adjudication : List ℕ → Option Event
@@ -83,11 +84,24 @@ terms_change rest = do
   copay ← cents_in words.1
   Some (Terms payer fee copay)
 
+-- a pharmacy, the switches that it tries in turn, and two numbers, spelled as cents are: after how many ticks it sends again, and how often to one switch
+unfoldable pub rule_change : List ℕ → Option Event
+rule_change rest = do
+  parts ← split_word rest
+  pharmacy ← pharmacy_in parts.0
+  words ← split_word parts.1
+  nodes ← switches_in words.0
+  numbers ← split_word words.1
+  again ← cents_in numbers.0
+  tries ← cents_in numbers.1
+  Some (Retry pharmacy nodes again tries)
+
 -- the event of a word and what stands after it
 abbrev pub living_event_with : List ℕ → List ℕ → Option Event
 living_event_with word rest =
     if bytes_eq word (codes "adjudicate") then adjudication rest else
-    if bytes_eq word (codes "terms") then terms_change rest else event_with word rest
+    if bytes_eq word (codes "terms") then terms_change rest else
+    if bytes_eq word (codes "retry") then rule_change rest else event_with word rest
 
 -- the event that a line spells
 unfoldable pub living_event_of : List ℕ → Option Event
@@ -98,7 +112,7 @@ abbrev pub line_event : Bool → List ℕ → Option Event
 line_event false = event_of
 line_event true = living_event_of
 
--- an event that has a line also where nodes do not live: no packet with an advice, and no change of terms
+-- an event that has a line also where nodes do not live: no packet with an advice, and no change of terms or of a rule of retries
 abbrev pub has_no_advice : Event → Bool
 has_no_advice (Submit pharmacy text) = true
 has_no_advice (Tick pharmacy) = true
@@ -107,6 +121,7 @@ has_no_advice (Stop node) = true
 has_no_advice (Start node) = true
 has_no_advice (Plan payer product price) = true
 has_no_advice (Terms payer fee copay) = false
+has_no_advice (Retry pharmacy nodes again tries) = false
 has_no_advice (Adjudicate packet advice) = false
 
 abbrev pub have_no_advice : List Event → Bool

@@ -1,4 +1,5 @@
 pub mod Nodes
+pub mod Switches
 pub mod Events
 pub mod Reading
 pub mod Commands

@@ -119,6 +119,7 @@ fn as_command(event: Event) -> Option<Command>
         | Event::Stop(_)
         | Event::Start(_)
         | Event::Terms { .. }
+        | Event::Retry { .. }
         | Event::Adjudicate { .. } => None,
     }
 }

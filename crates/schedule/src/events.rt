@@ -1,10 +1,11 @@
 //! The event that a line spells.
 
 ghost use Rattle.std.specs.Prelude.{◌≡◌, IfOk};
-ghost use Rattle.schedule.specs.Events.{adjudication, event_of, event_with, line_event, living_event_of, living_event_with, plain_event, submission, terms_change};
+ghost use Rattle.schedule.specs.Events.{adjudication, event_of, event_with, line_event, living_event_of, living_event_with, plain_event, rule_change, submission, terms_change};
 
 use crate::nodes::{node_in, pharmacy_in};
 use crate::plans::{plan_change, terms_change};
+use crate::rules::rule_change;
 use input_text::{PrintedFault, read_decimal, split_word, unprint};
 use octets::Octets;
 use std::alloc::{AllocError, Global};
@@ -24,7 +25,7 @@ pub fn event_of(alloc: Global, line: &[u8]) -> Result<Option<Event>, AllocError>
     }
 }
 
-/// The event that a line spells for programs that live: an adjudication or a change of terms too.
+/// The event that a line spells for programs that live: an adjudication or a change of terms or of a rule of retries too.
 #[tactic(auto, unfolding(crate::specs::Events::living_event_of))]
 pub fn living_event_of(alloc: Global, line: &[u8]) -> Result<Option<Event>, AllocError>
     ensures { IfOk result (λ event. event ≡ living_event_of line.now) }
@@ -58,6 +59,9 @@ fn living_event_with(alloc: Global, word: &[u8], rest: &[u8]) -> Result<Option<E
     }
     if word == b"terms".as_slice() {
         return Ok(terms_change(rest));
+    }
+    if word == b"retry".as_slice() {
+        return rule_change(alloc, rest);
     }
     event_with(alloc, word, rest)
 }

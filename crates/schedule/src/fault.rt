@@ -40,8 +40,9 @@ pub enum TextFault {
     /// Memory was refused.
     #[error("out of memory")]
     OutOfMemory,
-    /// An event has no line: it changes the plan for a product without a byte, or delivers a packet, with an advice or
-    /// without, whose number has more than 18 digits.
+    /// An event has no line: it changes the plan for a product without a byte, delivers a packet, with an advice or
+    /// without, whose number has more than 18 digits, or changes a rule of retries to bytes that are not the numbers of 1
+    /// to 4,096 switches, two bytes each.
     #[error("an event has no line in a schedule")]
     NoLine,
 }

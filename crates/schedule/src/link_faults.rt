@@ -82,7 +82,7 @@ fn action_in(word: &[u8]) -> Option<Action>
 }
 
 /// What stands before the first comma and what stands after it; `None` where there is no comma.
-fn split_comma(text: &[u8]) -> Option<(&[u8], &[u8])>
+pub(crate) fn split_comma(text: &[u8]) -> Option<(&[u8], &[u8])>
     ensures parts { IfSome result (λ parts. comma_parts text.now ≡ parts.0.now ∷ comma_parts parts.1.now) }
     ensures shorter { IfSome result (λ parts. length parts.1.now < length text.now) }
     ensures whole { IfNone result (comma_parts text.now ≡ text.now ∷ []) }

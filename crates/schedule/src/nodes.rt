@@ -56,7 +56,7 @@ pub(crate) fn pharmacy_in(word: &[u8]) -> Option<u16>
 }
 
 /// The number of the switch that a word names.
-fn switch_in(word: &[u8]) -> Option<u16>
+pub(crate) fn switch_in(word: &[u8]) -> Option<u16>
     ensures { result ≡ switch_in word.now }
 {
     numbered(b"sw", word)

@@ -28,7 +28,9 @@ pub fn read_schedule(alloc: Global, text: &[u8]) -> Result<Vec<Event>, ScheduleF
 }
 
 /// The same for programs that live: a line may also be `adjudicate 3 ADVICE`, where ADVICE is printed bytes to the end of the
-/// line, or `terms pr1 FEE COPAY`, where FEE and COPAY are cents of 1 to 10 digits and of 32 bits.
+/// line, `terms pr1 FEE COPAY`, where FEE and COPAY are cents of 1 to 10 digits and of 32 bits, or
+/// `retry ph1 SWITCHES AGAIN TRIES`, where SWITCHES are 1 to 4,096 names of switches joined by commas, and AGAIN and TRIES
+/// are numbers of 1 to 10 digits and of 32 bits.
 ///
 /// # Errors
 /// Those of `read_schedule`.

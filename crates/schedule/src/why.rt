@@ -9,6 +9,7 @@ use crate::events::{event_of, living_event_of};
 use crate::link_faults::fault_of;
 use crate::nodes::{node_in, payer_in, pharmacy_in};
 use crate::plans::{cents_in, product_in};
+use crate::rules::switches_in;
 use input_text::{PrintedFault, read_decimal, split_word, unprint};
 use std::alloc::{AllocError, Global};
 use thiserror::Error;
@@ -24,7 +25,7 @@ pub enum LineFault {
     #[error("a line is submit ph1 TEXT, tick ph1, deliver 3, stop sw1, start sw1 or plan pr1 PRODUCT PRICE, with one space between words")]
     EventWord,
     /// The first word is none of a replay's for programs that live.
-    #[error("a line is submit ph1 TEXT, tick ph1, deliver 3, adjudicate 3 ADVICE, stop sw1, start sw1, plan pr1 PRODUCT PRICE or terms pr1 FEE COPAY, with one space between words")]
+    #[error("a line is submit ph1 TEXT, tick ph1, deliver 3, adjudicate 3 ADVICE, stop sw1, start sw1, plan pr1 PRODUCT PRICE, terms pr1 FEE COPAY or retry ph1 SWITCHES AGAIN TRIES, with one space between words")]
     LivingEventWord,
     /// The first word is none of a run's.
     #[error("a line is submit ph1 TEXT, tick ph1, plan pr1 PRODUCT PRICE, restart sw1 or await ph1 3, with one space between words, and before all of these fault ph1 sw1 ACTIONS")]
@@ -65,6 +66,15 @@ pub enum LineFault {
     /// There is no copay.
     #[error("a copay is wanted: 1 to 10 digits, at most 4294967295")]
     Copay,
+    /// There are no switches.
+    #[error("switches are wanted: 1 to 4096 names, each sw and 1 to 5 digits, joined by commas")]
+    Switches,
+    /// There is no number of ticks after which a pharmacy sends again.
+    #[error("a number of ticks is wanted: 1 to 10 digits, at most 4294967295")]
+    Again,
+    /// There is no number of tries at one switch.
+    #[error("a number of tries is wanted: 1 to 10 digits, at most 4294967295")]
+    Tries,
     /// There are no actions.
     #[error("actions are wanted: deliver, lose, twice and hold, joined by commas")]
     Actions,
@@ -127,6 +137,9 @@ fn living_cause(alloc: Global, line: &[u8]) -> Result<LineFault, AllocError> {
         }
         if word == b"terms".as_slice() {
             return Ok(terms_cause(rest));
+        }
+        if word == b"retry".as_slice() {
+            return rule_cause(alloc, rest);
         }
     }
     match event_cause(alloc, line)? {
@@ -228,6 +241,41 @@ fn terms_cause(rest: &[u8]) -> LineFault {
     match cents_in(fee) {
         Some(_) => LineFault::Copay,
         None => LineFault::Fee,
+    }
+}
+
+/// What is wrong after `retry`.
+fn rule_cause(alloc: Global, rest: &[u8]) -> Result<LineFault, AllocError> {
+    let Some((node, rest)) = split_word(rest) else {
+        return Ok(match pharmacy_in(rest) {
+            Some(_) => LineFault::Switches,
+            None => LineFault::Pharmacy,
+        });
+    };
+    if pharmacy_in(node).is_none() {
+        return Ok(LineFault::Pharmacy);
+    }
+    let Some((switches, numbers)) = split_word(rest) else {
+        return Ok(match switches_in(alloc, rest)? {
+            Some(_) => LineFault::Again,
+            None => LineFault::Switches,
+        });
+    };
+    match switches_in(alloc, switches)? {
+        Some(_) => Ok(numbers_cause(numbers)),
+        None => Ok(LineFault::Switches),
+    }
+}
+
+/// What is wrong in the two numbers of a rule of retries.
+fn numbers_cause(numbers: &[u8]) -> LineFault {
+    let again = match split_word(numbers) {
+        Some((again, _)) => again,
+        None => numbers,
+    };
+    match cents_in(again) {
+        Some(_) => LineFault::Tries,
+        None => LineFault::Again,
     }
 }
 

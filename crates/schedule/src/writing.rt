@@ -16,7 +16,7 @@ use std::alloc::{AllocError, Global};
 use world_setup::Event;
 
 /// The lines of a schedule that spell these events, one after another. What is written is read again, and given only
-/// where it is read as the same events; also by programs that do not live, if no event is an adjudication or a change of terms.
+/// where it is read as the same events; also by programs that do not live, if no event is an adjudication or a change of terms or of a rule of retries.
 ///
 /// # Errors
 /// `NoLine` where an event has none; `OutOfMemory`.

@@ -28,7 +28,8 @@ pub grows_on : (ctx wider widest : Context) (s t u : WorldSettings) → Grows ct
 grows_on ctx wider widest s t u f g =
     record {
       widens = record {
-        reading = g.widens.reading ∙ ap (λ (x : Context). record x { route = widest.route }) f.widens.reading;
+        reading = g.widens.reading ∙ ap (λ (x : Context). record x { route = widest.route; switches = widest.switches }) f.widens.reading;
+        switches = let l = f.widens.switches in let m = g.widens.switches in omega arith;
         routes = λ number key payer e. g.widens.routes number key payer (f.widens.routes number key payer e);
       };
       pharmacies = extends_on PharmacyGrows pharmacy_on s.pharmacies t.pharmacies u.pharmacies f.pharmacies g.pharmacies;
@@ -39,7 +40,7 @@ grows_on ctx wider widest s t u f g =
 pub grows_itself : (ctx : Context) (s : WorldSettings) → Grows ctx ctx s s
 grows_itself ctx s =
     record {
-      widens = record { reading = refl; routes = λ number key payer e. e };
+      widens = record { reading = refl; switches = omega arith; routes = λ number key payer e. e };
       pharmacies = extends_itself PharmacyGrows (λ a. record { same = refl; cap = omega arith }) s.pharmacies;
       switches = extends_itself (λ (a b : ℕ). b ≡ a) (λ a. refl) s.switches;
       payers = extends_itself PayerGrows (λ a. record { same = refl; cap = omega arith }) s.payers;
@@ -48,7 +49,7 @@ grows_itself ctx s =
 pub for_all : (ctx wider : Context) (s t : WorldSettings) → Grows ctx wider s t → GrowsFor ctx wider s t
 for_all ctx wider s t g =
     record {
-      widens = record { reading = g.widens.reading; routes = λ number key payer own e. g.widens.routes number key payer e };
+      widens = record { reading = g.widens.reading; switches = g.widens.switches; routes = λ number key payer own e. g.widens.routes number key payer e };
       nodes = record { pharmacies = g.pharmacies; switches = g.switches; payers = g.payers };
     }
 
@@ -79,7 +80,8 @@ pub for_twice : (ctx wider widest : Context) (s t u : WorldSettings) → GrowsFo
 for_twice ctx wider widest s t u f g =
     record {
       widens = record {
-        reading = g.widens.reading ∙ ap (λ (x : Context). record x { route = widest.route }) f.widens.reading;
+        reading = g.widens.reading ∙ ap (λ (x : Context). record x { route = widest.route; switches = widest.switches }) f.widens.reading;
+        switches = let l = f.widens.switches in let m = g.widens.switches in omega arith;
         routes = λ number key payer own e. g.widens.routes number key payer (of_pharmacy_on s t key.qualifier key.provider f.nodes.pharmacies own) (f.widens.routes number key payer own e);
       };
       nodes = record {

@@ -1,7 +1,7 @@
 -- The nodes of settings that have grown.
 use Rattle.std.proofs.Common.{◌≡◌, ℕ, zero, suc, ◌+◌, ◌≤◌, List, [], ◌∷◌, Option, Some, slice_get, sym, ap, ◌∙◌, subst}
 use Rattle.std.specs.Prelude.{option_map}
-use Rattle.claim_model.specs.Journal.{PharmacySettings, Journal, JournalAtRest}
+use Rattle.claim_model.specs.Journal.{PharmacySettings, opening_rule, Journal, JournalAtRest}
 use Rattle.claim_model.specs.Table.{Table}
 use Rattle.claim_model.specs.Rows.{Book}
 use Rattle.claim_model.specs.Node.{Pharmacy, Switch, Payer, Power, Up}
@@ -23,9 +23,9 @@ grown_pharmacy : (m : ℕ) (old new : List PharmacySettings) (k : ℕ) (node : P
 grown_pharmacy m [] new k node g e = absurd cc
 grown_pharmacy m (a ∷ old) [] k node g e = absurd g
 grown_pharmacy m (a ∷ old) (b ∷ new) zero node g e =
-    let is : Up (record { number = m; settings = a; entries = [] }) ≡ node = cc in
-    subst (GrownPharmacy (Some (Up (record { number = m; settings = b; entries = [] })))) is
-    (record { cap = b.cap; is = ap (λ (s : PharmacySettings). Some (Up (record { number = m; settings = s; entries = [] }))) g.0.same; room = g.0.cap })
+    let is : Up (record { number = m; settings = a; rule = opening_rule a; entries = [] }) ≡ node = cc in
+    subst (GrownPharmacy (Some (Up (record { number = m; settings = b; rule = opening_rule b; entries = [] })))) is
+    (record { cap = b.cap; is = ap (λ (s : PharmacySettings). Some (Up (record { number = m; settings = s; rule = opening_rule s; entries = [] }))) g.0.same; room = g.0.cap })
 grown_pharmacy m (a ∷ old) (b ∷ new) (suc k) node g e = grown_pharmacy (m + 1) old new k node g.1 e
 
 grown_switch : (old new : List ℕ) (k : ℕ) (node : Power Table ℕ) → Extends (λ (a b : ℕ). b ≡ a) old new → slice_get (switches_of old) k ≡ Some node → slice_get (switches_of new) k ≡ Some node

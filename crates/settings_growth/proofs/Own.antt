@@ -7,7 +7,7 @@ use Rattle.claim_model.specs.Laws.{Laws}
 use Rattle.claim_model.specs.Readable.{is_request}
 use Rattle.claim_model.specs.Numbered.{numbered}
 use Rattle.claim_model.specs.Node.{Node, Outcome, Done, Refused}
-use Rattle.claim_model.specs.World.{World, Packet, Event, Submission, Ticking, Delivery, Stopping, Starting, PlanChange, Adjudication, step, world_after}
+use Rattle.claim_model.specs.World.{World, Packet, Event, Submission, Ticking, Delivery, Stopping, Starting, Revising, Adjudication, step, world_after}
 use Rattle.claim_model.specs.Settings.{WorldSettings, Accepts, opening}
 use Rattle.claim_model.specs.Nodes.{Asked, same_node, asked, taking, adjudicating}
 use Rattle.claim_model.specs.Held.{asked as asked_for}
@@ -51,7 +51,7 @@ own_asked ctx s w (Ticking n) a laws x e = subst (λ (b : Asked). IsOwnCall ctx 
 own_asked ctx s w (Delivery k) a laws x e = delivers ctx s w k (numbered w.packets k) a laws x refl e
 own_asked ctx s w (Stopping node) a laws x e = subst (λ (b : Asked). IsOwnCall ctx s b.call) (same_some _ a e) tt
 own_asked ctx s w (Starting node) a laws x e = subst (λ (b : Asked). IsOwnCall ctx s b.call) (same_some _ a e) tt
-own_asked ctx s w (PlanChange n change) a laws x e = subst (λ (b : Asked). IsOwnCall ctx s b.call) (same_some _ a e) tt
+own_asked ctx s w (Revising n change) a laws x e = subst (λ (b : Asked). IsOwnCall ctx s b.call) (same_some _ a e) tt
 own_asked ctx s w (Adjudication k advice) a laws x e = advises ctx s w k advice (numbered w.packets k) a laws x refl e
 
 one_logged : (ctx : Context) (s : WorldSettings) (b : Bool) (l : Logged) → IsOwnCall ctx s l.call → HasOwnCalls ctx s (cond b (l ∷ []) [])

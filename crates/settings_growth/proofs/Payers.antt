@@ -11,7 +11,7 @@ use Rattle.claim_model.specs.Ruled.{Ruled, ruled}
 use Rattle.claim_model.specs.Rows.{Row, Book, ruled_rows}
 use Rattle.claim_model.specs.Judgement.{Judged, Unpriced, ToPrice, ToReverse, judged, ruling, rulings_from, is_advised, all_advised}
 use Rattle.claim_model.specs.Book.{serial_fits, row_of, row_with, new_row, has_verdicts, unadvised, entered_row, answered_by, answered_readable, answered}
-use Rattle.claim_model.specs.Node.{Node, Power, Up, AtRest, Sent, Call, Submit, Tick, Take, Stop, Start, Reprice, Adjudicate, Outcome, Done, Refused, after_answer, payer_takes, advice_in, after_reprice, payer_up, payer_at_rest, payer_step}
+use Rattle.claim_model.specs.Node.{Node, Power, Up, AtRest, Sent, Call, Submit, Tick, Take, Stop, Start, Revise, OfPlan, OfRule, Adjudicate, Outcome, Done, Refused, after_answer, payer_takes, advice_in, after_reprice, payer_up, payer_at_rest, payer_step}
 use Rattle.settings_growth.specs.Growth.{book_with_cap, RouteLasts}
 use Rattle.settings_growth.proofs.Rerouted.{rerouted, leading}
 
@@ -20,27 +20,27 @@ capped cap b = record b { settings = record b.settings { cap = cap } }
 
 -- a ruling hangs on no cap and on no route
 
-ruled_alike : (ctx : Context) (route : ℕ → RouteKey → Option ℕ) (b : Book) (advice : Advice) (cap : ℕ) (before : List Ruled) (id : TxnId) (place : ℕ) (orders : List (Result Order (List Code)))
-    → rulings_from (rerouted ctx route) (capped cap b) advice before id place orders ≡ rulings_from ctx b advice before id place orders
+ruled_alike : (ctx : Context) (route : ℕ → RouteKey → Option ℕ) (count : ℕ) (b : Book) (advice : Advice) (cap : ℕ) (before : List Ruled) (id : TxnId) (place : ℕ) (orders : List (Result Order (List Code)))
+    → rulings_from (rerouted ctx route count) (capped cap b) advice before id place orders ≡ rulings_from ctx b advice before id place orders
 unfolding ruling
-ruled_alike ctx route b advice cap before id place [] = refl
-ruled_alike ctx route b advice cap before id place (order ∷ orders) =
-    ap (λ (rs : List Ruling). ruling ctx b advice before place order ∷ rs) (ruled_alike ctx route b advice cap (before ++ ruled id place order (ruling ctx b advice before place order) ∷ []) id (place + 1) orders)
+ruled_alike ctx route count b advice cap before id place [] = refl
+ruled_alike ctx route count b advice cap before id place (order ∷ orders) =
+    ap (λ (rs : List Ruling). ruling ctx b advice before place order ∷ rs) (ruled_alike ctx route count b advice cap (before ++ ruled id place order (ruling ctx b advice before place order) ∷ []) id (place + 1) orders)
 
-row_alike : (ctx : Context) (route : ℕ → RouteKey → Option ℕ) (b : Book) (advice : Advice) (cap : ℕ) (id : TxnId) (request : List ℕ) → new_row (rerouted ctx route) (capped cap b) advice id request ≡ new_row ctx b advice id request
-row_alike ctx route b advice cap id request =
-    ap (row_with ctx b advice id request) (ruled_alike ctx route b advice cap (ruled_rows ctx b.rows) id 1 (ctx.orders request))
+row_alike : (ctx : Context) (route : ℕ → RouteKey → Option ℕ) (count : ℕ) (b : Book) (advice : Advice) (cap : ℕ) (id : TxnId) (request : List ℕ) → new_row (rerouted ctx route count) (capped cap b) advice id request ≡ new_row ctx b advice id request
+row_alike ctx route count b advice cap id request =
+    ap (row_with ctx b advice id request) (ruled_alike ctx route count b advice cap (ruled_rows ctx b.rows) id 1 (ctx.orders request))
 
 -- and so it is with whether it has its verdicts
 
-advised_alike : (ctx : Context) (route : ℕ → RouteKey → Option ℕ) (b : Book) (advice : Advice) (cap : ℕ) (before : List Ruled) (id : TxnId) (place : ℕ) (orders : List (Result Order (List Code)))
-    → all_advised (rerouted ctx route) (capped cap b) advice before id place orders ≡ all_advised ctx b advice before id place orders
+advised_alike : (ctx : Context) (route : ℕ → RouteKey → Option ℕ) (count : ℕ) (b : Book) (advice : Advice) (cap : ℕ) (before : List Ruled) (id : TxnId) (place : ℕ) (orders : List (Result Order (List Code)))
+    → all_advised (rerouted ctx route count) (capped cap b) advice before id place orders ≡ all_advised ctx b advice before id place orders
 unfolding ruling
-advised_alike ctx route b advice cap before id place [] = refl
-advised_alike ctx route b advice cap before id place (order ∷ orders) =
-    one_alike (judged before order) _ _ (advised_alike ctx route b advice cap (before ++ ruled id place order (ruling ctx b advice before place order) ∷ []) id (place + 1) orders)
+advised_alike ctx route count b advice cap before id place [] = refl
+advised_alike ctx route count b advice cap before id place (order ∷ orders) =
+    one_alike (judged before order) _ _ (advised_alike ctx route count b advice cap (before ++ ruled id place order (ruling ctx b advice before place order) ∷ []) id (place + 1) orders)
   where
-    one_alike : (j : Judged) (x y : Bool) → x ≡ y → (is_advised (rerouted ctx route) (capped cap b) advice place j && x) ≡ (is_advised ctx b advice place j && y)
+    one_alike : (j : Judged) (x y : Bool) → x ≡ y → (is_advised (rerouted ctx route count) (capped cap b) advice place j && x) ≡ (is_advised ctx b advice place j && y)
     one_alike (Unpriced given) x y e = e
     one_alike (ToPrice c) x y e = ap (λ (t : Bool). is_advised ctx b advice place (ToPrice c) && t) e
     one_alike (ToReverse auth v) x y e = ap (λ (t : Bool). is_advised ctx b advice place (ToReverse auth v) && t) e
@@ -57,14 +57,14 @@ enters ctx b cap h row true true from id next sent e = ap (leading (book_with_ca
 enters ctx b cap h row true false from id next sent e = absurd cc
 enters ctx b cap h row false advised from id next sent e = absurd cc
 
-has_room : (ctx : Context) (route : ℕ → RouteKey → Option ℕ) (b : Book) (advice : Advice) (cap : ℕ) (h : RequestHeader) (id : TxnId) (request : List ℕ) (from : Node) (room more : Bool) (next : Power Book Book) (sent : List Sent) → (room ≡ true → more ≡ true)
+has_room : (ctx : Context) (route : ℕ → RouteKey → Option ℕ) (count : ℕ) (b : Book) (advice : Advice) (cap : ℕ) (h : RequestHeader) (id : TxnId) (request : List ℕ) (from : Node) (room more : Bool) (next : Power Book Book) (sent : List Sent) → (room ≡ true → more ≡ true)
     → after_answer ctx from id (cond room (entered_row ctx b h (has_verdicts ctx b advice id request) (new_row ctx b advice id request)) (Err Refusal.BookFull)) ≡ Done next sent
-    → after_answer ctx from id (cond more (entered_row (rerouted ctx route) (capped cap b) h (has_verdicts (rerouted ctx route) (capped cap b) advice id request) (new_row (rerouted ctx route) (capped cap b) advice id request)) (Err Refusal.BookFull)) ≡ Done (book_with_cap cap next) sent
-has_room ctx route b advice cap h id request from false more next sent le e = absurd cc
-has_room ctx route b advice cap h id request from true more next sent le e =
-    ap (λ (m : Bool). after_answer ctx from id (cond m (entered_row (rerouted ctx route) (capped cap b) h (has_verdicts (rerouted ctx route) (capped cap b) advice id request) (new_row (rerouted ctx route) (capped cap b) advice id request)) (Err Refusal.BookFull))) (le refl)
-    ∙ (ap (λ (row : Row). after_answer ctx from id (entered_row ctx (capped cap b) h (has_verdicts (rerouted ctx route) (capped cap b) advice id request) row)) (row_alike ctx route b advice cap id request)
-    ∙ (ap (λ (m : Bool). after_answer ctx from id (entered_row ctx (capped cap b) h m (new_row ctx b advice id request))) (advised_alike ctx route b advice cap (ruled_rows ctx b.rows) id 1 (ctx.orders request))
+    → after_answer ctx from id (cond more (entered_row (rerouted ctx route count) (capped cap b) h (has_verdicts (rerouted ctx route count) (capped cap b) advice id request) (new_row (rerouted ctx route count) (capped cap b) advice id request)) (Err Refusal.BookFull)) ≡ Done (book_with_cap cap next) sent
+has_room ctx route count b advice cap h id request from false more next sent le e = absurd cc
+has_room ctx route count b advice cap h id request from true more next sent le e =
+    ap (λ (m : Bool). after_answer ctx from id (cond m (entered_row (rerouted ctx route count) (capped cap b) h (has_verdicts (rerouted ctx route count) (capped cap b) advice id request) (new_row (rerouted ctx route count) (capped cap b) advice id request)) (Err Refusal.BookFull))) (le refl)
+    ∙ (ap (λ (row : Row). after_answer ctx from id (entered_row ctx (capped cap b) h (has_verdicts (rerouted ctx route count) (capped cap b) advice id request) row)) (row_alike ctx route count b advice cap id request)
+    ∙ (ap (λ (m : Bool). after_answer ctx from id (entered_row ctx (capped cap b) h m (new_row ctx b advice id request))) (advised_alike ctx route count b advice cap (ruled_rows ctx b.rows) id 1 (ctx.orders request))
     ∙ enters ctx b cap h (new_row ctx b advice id request) (list_all serial_fits (new_row ctx b advice id request).rulings) (has_verdicts ctx b advice id request) from id next sent e))
 
 known : (ctx : Context) (b : Book) (cap : ℕ) (bytes : List ℕ) (same : Bool) (from : Node) (id : TxnId) (next : Power Book Book) (sent : List Sent)
@@ -73,67 +73,68 @@ known : (ctx : Context) (b : Book) (cap : ℕ) (bytes : List ℕ) (same : Bool) 
 known ctx b cap bytes true from id next sent e = ap (leading (book_with_cap cap)) e
 known ctx b cap bytes false from id next sent e = absurd cc
 
-by_row : (ctx : Context) (route : ℕ → RouteKey → Option ℕ) (b : Book) (advice : Advice) (cap : ℕ) (h : RequestHeader) (id : TxnId) (request : List ℕ) (from : Node) (o : Option Row) (next : Power Book Book) (sent : List Sent) → b.settings.cap ≤ cap
+by_row : (ctx : Context) (route : ℕ → RouteKey → Option ℕ) (count : ℕ) (b : Book) (advice : Advice) (cap : ℕ) (h : RequestHeader) (id : TxnId) (request : List ℕ) (from : Node) (o : Option Row) (next : Power Book Book) (sent : List Sent) → b.settings.cap ≤ cap
     → after_answer ctx from id (answered_by ctx b advice id request h o) ≡ Done next sent
-    → after_answer ctx from id (answered_by (rerouted ctx route) (capped cap b) advice id request h o) ≡ Done (book_with_cap cap next) sent
-by_row ctx route b advice cap h id request from (Some row) next sent le e = known ctx b cap (answer_text ctx h row) (bytes_eq row.request request) from id next sent e
-by_row ctx route b advice cap h id request from None next sent le e =
-    has_room ctx route b advice cap h id request from (nat_lt (length b.rows) b.settings.cap) (nat_lt (length b.rows) cap) next sent (still_room (length b.rows) b.settings.cap cap le) e
+    → after_answer ctx from id (answered_by (rerouted ctx route count) (capped cap b) advice id request h o) ≡ Done (book_with_cap cap next) sent
+by_row ctx route count b advice cap h id request from (Some row) next sent le e = known ctx b cap (answer_text ctx h row) (bytes_eq row.request request) from id next sent e
+by_row ctx route count b advice cap h id request from None next sent le e =
+    has_room ctx route count b advice cap h id request from (nat_lt (length b.rows) b.settings.cap) (nat_lt (length b.rows) cap) next sent (still_room (length b.rows) b.settings.cap cap le) e
 
 -- a payer that is the request's is so still
 
-still_ours : (ctx : Context) (route : ℕ → RouteKey → Option ℕ) (id : TxnId) (h : RequestHeader) (payer : ℕ) (o : Option ℕ) → ((p : ℕ) → payer_for ctx id h ≡ Some p → route id.number (route_key h) ≡ Some p) → payer_for ctx id h ≡ o → is_payer payer o ≡ true → is_payer payer (route id.number (route_key h)) ≡ true
-still_ours ctx route id h payer None wide is e = absurd cc
-still_ours ctx route id h payer (Some p) wide is e = ap (is_payer payer) (wide p is) ∙ e
+still_ours : (ctx : Context) (route : ℕ → RouteKey → Option ℕ) (count : ℕ) (id : TxnId) (h : RequestHeader) (payer : ℕ) (o : Option ℕ) → ((p : ℕ) → payer_for ctx id h ≡ Some p → route id.number (route_key h) ≡ Some p) → payer_for ctx id h ≡ o → is_payer payer o ≡ true → is_payer payer (route id.number (route_key h)) ≡ true
+still_ours ctx route count id h payer None wide is e = absurd cc
+still_ours ctx route count id h payer (Some p) wide is e = ap (is_payer payer) (wide p is) ∙ e
 
-ours : (ctx : Context) (route : ℕ → RouteKey → Option ℕ) (b : Book) (advice : Advice) (cap : ℕ) (h : RequestHeader) (id : TxnId) (request : List ℕ) (from : Node) (own more : Bool) (next : Power Book Book) (sent : List Sent) → b.settings.cap ≤ cap → (own ≡ true → more ≡ true)
+ours : (ctx : Context) (route : ℕ → RouteKey → Option ℕ) (count : ℕ) (b : Book) (advice : Advice) (cap : ℕ) (h : RequestHeader) (id : TxnId) (request : List ℕ) (from : Node) (own more : Bool) (next : Power Book Book) (sent : List Sent) → b.settings.cap ≤ cap → (own ≡ true → more ≡ true)
     → after_answer ctx from id (cond own (answered_by ctx b advice id request h (row_of id b.rows)) (Err Refusal.NotOurs)) ≡ Done next sent
-    → after_answer ctx from id (cond more (answered_by (rerouted ctx route) (capped cap b) advice id request h (row_of id b.rows)) (Err Refusal.NotOurs)) ≡ Done (book_with_cap cap next) sent
-ours ctx route b advice cap h id request from false more next sent le still e = absurd cc
-ours ctx route b advice cap h id request from true more next sent le still e =
-    ap (λ (m : Bool). after_answer ctx from id (cond m (answered_by (rerouted ctx route) (capped cap b) advice id request h (row_of id b.rows)) (Err Refusal.NotOurs))) (still refl)
-    ∙ by_row ctx route b advice cap h id request from (row_of id b.rows) next sent le e
+    → after_answer ctx from id (cond more (answered_by (rerouted ctx route count) (capped cap b) advice id request h (row_of id b.rows)) (Err Refusal.NotOurs)) ≡ Done (book_with_cap cap next) sent
+ours ctx route count b advice cap h id request from false more next sent le still e = absurd cc
+ours ctx route count b advice cap h id request from true more next sent le still e =
+    ap (λ (m : Bool). after_answer ctx from id (cond m (answered_by (rerouted ctx route count) (capped cap b) advice id request h (row_of id b.rows)) (Err Refusal.NotOurs))) (still refl)
+    ∙ by_row ctx route count b advice cap h id request from (row_of id b.rows) next sent le e
 
-by_header : (ctx : Context) (route : ℕ → RouteKey → Option ℕ) (b : Book) (advice : Advice) (cap : ℕ) (id : TxnId) (request : List ℕ) (from : Node) (o : Option RequestHeader) (next : Power Book Book) (sent : List Sent) → ((h : RequestHeader) (p : ℕ) → o ≡ Some h → payer_for ctx id h ≡ Some p → route id.number (route_key h) ≡ Some p) → b.settings.cap ≤ cap
+by_header : (ctx : Context) (route : ℕ → RouteKey → Option ℕ) (count : ℕ) (b : Book) (advice : Advice) (cap : ℕ) (id : TxnId) (request : List ℕ) (from : Node) (o : Option RequestHeader) (next : Power Book Book) (sent : List Sent) → ((h : RequestHeader) (p : ℕ) → o ≡ Some h → payer_for ctx id h ≡ Some p → route id.number (route_key h) ≡ Some p) → b.settings.cap ≤ cap
     → after_answer ctx from id (answered_readable ctx b advice id request o) ≡ Done next sent
-    → after_answer ctx from id (answered_readable (rerouted ctx route) (capped cap b) advice id request o) ≡ Done (book_with_cap cap next) sent
-by_header ctx route b advice cap id request from None next sent wide le e = absurd cc
-by_header ctx route b advice cap id request from (Some h) next sent wide le e =
-    ours ctx route b advice cap h id request from (is_payer b.payer (payer_for ctx id h)) (is_payer b.payer (route id.number (route_key h))) next sent le (still_ours ctx route id h b.payer (payer_for ctx id h) (λ p. wide h p refl) refl) e
+    → after_answer ctx from id (answered_readable (rerouted ctx route count) (capped cap b) advice id request o) ≡ Done (book_with_cap cap next) sent
+by_header ctx route count b advice cap id request from None next sent wide le e = absurd cc
+by_header ctx route count b advice cap id request from (Some h) next sent wide le e =
+    ours ctx route count b advice cap h id request from (is_payer b.payer (payer_for ctx id h)) (is_payer b.payer (route id.number (route_key h))) next sent le (still_ours ctx route count id h b.payer (payer_for ctx id h) (λ p. wide h p refl) refl) e
 
-by_kind : (ctx : Context) (route : ℕ → RouteKey → Option ℕ) (b : Book) (advice : Advice) (cap : ℕ) (e : Envelope) (from : Node) (is : Bool) (next : Power Book Book) (sent : List Sent)
+by_kind : (ctx : Context) (route : ℕ → RouteKey → Option ℕ) (count : ℕ) (b : Book) (advice : Advice) (cap : ℕ) (e : Envelope) (from : Node) (is : Bool) (next : Power Book Book) (sent : List Sent)
     → ((h : RequestHeader) (p : ℕ) → is ≡ true → readable ctx e.payload ≡ Some h → payer_for ctx e.id h ≡ Some p → route e.id.number (route_key h) ≡ Some p) → b.settings.cap ≤ cap
     → cond is (after_answer ctx from e.id (answered ctx b advice e.id e.payload)) (Refused Refusal.Unreadable) ≡ Done next sent
-    → cond is (after_answer ctx from e.id (answered (rerouted ctx route) (capped cap b) advice e.id e.payload)) (Refused Refusal.Unreadable) ≡ Done (book_with_cap cap next) sent
+    → cond is (after_answer ctx from e.id (answered (rerouted ctx route count) (capped cap b) advice e.id e.payload)) (Refused Refusal.Unreadable) ≡ Done (book_with_cap cap next) sent
 unfolding answered readable
-by_kind ctx route b advice cap e from true next sent wide le is = by_header ctx route b advice cap e.id e.payload from (readable ctx e.payload) next sent (λ h p. wide h p refl) le is
-by_kind ctx route b advice cap e from false next sent wide le is = absurd cc
+by_kind ctx route count b advice cap e from true next sent wide le is = by_header ctx route count b advice cap e.id e.payload from (readable ctx e.payload) next sent (λ h p. wide h p refl) le is
+by_kind ctx route count b advice cap e from false next sent wide le is = absurd cc
 
-takes : (ctx : Context) (route : ℕ → RouteKey → Option ℕ) (b : Book) (advice : Advice) (cap : ℕ) (from : Node) (o : Result Envelope EnvelopeFault) (next : Power Book Book) (sent : List Sent)
+takes : (ctx : Context) (route : ℕ → RouteKey → Option ℕ) (count : ℕ) (b : Book) (advice : Advice) (cap : ℕ) (from : Node) (o : Result Envelope EnvelopeFault) (next : Power Book Book) (sent : List Sent)
     → ((e : Envelope) (h : RequestHeader) (p : ℕ) → o ≡ Ok e → is_request e ≡ true → readable ctx e.payload ≡ Some h → payer_for ctx e.id h ≡ Some p → route e.id.number (route_key h) ≡ Some p) → b.settings.cap ≤ cap
-    → payer_takes ctx b advice from o ≡ Done next sent → payer_takes (rerouted ctx route) (capped cap b) advice from o ≡ Done (book_with_cap cap next) sent
-takes ctx route b advice cap from (Err why) next sent wide le e = absurd cc
-takes ctx route b advice cap from (Ok x) next sent wide le e = by_kind ctx route b advice cap x from (is_request x) next sent (λ h p. wide x h p refl) le e
+    → payer_takes ctx b advice from o ≡ Done next sent → payer_takes (rerouted ctx route count) (capped cap b) advice from o ≡ Done (book_with_cap cap next) sent
+takes ctx route count b advice cap from (Err why) next sent wide le e = absurd cc
+takes ctx route count b advice cap from (Ok x) next sent wide le e = by_kind ctx route count b advice cap x from (is_request x) next sent (λ h p. wide x h p refl) le e
 
 reprices : (b : Book) (cap : ℕ) (r : Result Plan PlanFault) (next : Power Book Book) (sent : List Sent) → after_reprice b r ≡ Done next sent → after_reprice (capped cap b) r ≡ Done (book_with_cap cap next) sent
 reprices b cap (Err why) next sent e = absurd cc
 reprices b cap (Ok plan) next sent e = ap (leading (book_with_cap cap)) e
 
-advised_over : (ctx : Context) (route : ℕ → RouteKey → Option ℕ) (b : Book) (cap : ℕ) (from : Node) (bytes advice : List ℕ) (asks : Bool) (next : Power Book Book) (sent : List Sent) → RouteLasts ctx (rerouted ctx route) (Adjudicate from bytes advice) → b.settings.cap ≤ cap
+advised_over : (ctx : Context) (route : ℕ → RouteKey → Option ℕ) (count : ℕ) (b : Book) (cap : ℕ) (from : Node) (bytes advice : List ℕ) (asks : Bool) (next : Power Book Book) (sent : List Sent) → RouteLasts ctx (rerouted ctx route count) (Adjudicate from bytes advice) → b.settings.cap ≤ cap
     → cond asks (payer_takes ctx b (advice_in ctx advice) from (ctx.read_envelope bytes)) (Refused Refusal.NotAsked) ≡ Done next sent
-    → cond asks (payer_takes (rerouted ctx route) (capped cap b) (advice_in ctx advice) from (ctx.read_envelope bytes)) (Refused Refusal.NotAsked) ≡ Done (book_with_cap cap next) sent
-advised_over ctx route b cap from bytes advice true next sent wide le e = takes ctx route b (advice_in ctx advice) cap from (ctx.read_envelope bytes) next sent wide le e
-advised_over ctx route b cap from bytes advice false next sent wide le e = absurd cc
+    → cond asks (payer_takes (rerouted ctx route count) (capped cap b) (advice_in ctx advice) from (ctx.read_envelope bytes)) (Refused Refusal.NotAsked) ≡ Done (book_with_cap cap next) sent
+advised_over ctx route count b cap from bytes advice true next sent wide le e = takes ctx route count b (advice_in ctx advice) cap from (ctx.read_envelope bytes) next sent wide le e
+advised_over ctx route count b cap from bytes advice false next sent wide le e = absurd cc
 
-step_up : (ctx : Context) (route : ℕ → RouteKey → Option ℕ) (b : Book) (cap : ℕ) (call : Call) (next : Power Book Book) (sent : List Sent) → RouteLasts ctx (rerouted ctx route) call → b.settings.cap ≤ cap
-    → payer_up ctx b call ≡ Done next sent → payer_up (rerouted ctx route) (capped cap b) call ≡ Done (book_with_cap cap next) sent
-step_up ctx route b cap (Submit text) next sent wide le e = absurd cc
-step_up ctx route b cap Tick next sent wide le e = absurd cc
-step_up ctx route b cap (Take from bytes) next sent wide le e = takes ctx route b unadvised cap from (ctx.read_envelope bytes) next sent wide le e
-step_up ctx route b cap Stop next sent wide le e = ap (leading (book_with_cap cap)) e
-step_up ctx route b cap Start next sent wide le e = absurd cc
-step_up ctx route b cap (Reprice change) next sent wide le e = reprices b cap (ctx.reprice b.plan change) next sent e
-step_up ctx route b cap (Adjudicate from bytes advice) next sent wide le e = advised_over ctx route b cap from bytes advice b.settings.asks next sent wide le e
+step_up : (ctx : Context) (route : ℕ → RouteKey → Option ℕ) (count : ℕ) (b : Book) (cap : ℕ) (call : Call) (next : Power Book Book) (sent : List Sent) → RouteLasts ctx (rerouted ctx route count) call → b.settings.cap ≤ cap
+    → payer_up ctx b call ≡ Done next sent → payer_up (rerouted ctx route count) (capped cap b) call ≡ Done (book_with_cap cap next) sent
+step_up ctx route count b cap (Submit text) next sent wide le e = absurd cc
+step_up ctx route count b cap Tick next sent wide le e = absurd cc
+step_up ctx route count b cap (Take from bytes) next sent wide le e = takes ctx route count b unadvised cap from (ctx.read_envelope bytes) next sent wide le e
+step_up ctx route count b cap Stop next sent wide le e = ap (leading (book_with_cap cap)) e
+step_up ctx route count b cap Start next sent wide le e = absurd cc
+step_up ctx route count b cap (Revise (OfRule rule)) next sent wide le e = absurd cc
+step_up ctx route count b cap (Revise (OfPlan change)) next sent wide le e = reprices b cap (ctx.reprice b.plan change) next sent e
+step_up ctx route count b cap (Adjudicate from bytes advice) next sent wide le e = advised_over ctx route count b cap from bytes advice b.settings.asks next sent wide le e
 
 step_at_rest : (b : Book) (cap : ℕ) (call : Call) (next : Power Book Book) (sent : List Sent) → payer_at_rest b call ≡ Done next sent → payer_at_rest (capped cap b) call ≡ Done (book_with_cap cap next) sent
 step_at_rest b cap (Submit text) next sent e = absurd cc
@@ -141,17 +142,18 @@ step_at_rest b cap Tick next sent e = absurd cc
 step_at_rest b cap (Take from bytes) next sent e = absurd cc
 step_at_rest b cap Stop next sent e = absurd cc
 step_at_rest b cap Start next sent e = ap (leading (book_with_cap cap)) e
-step_at_rest b cap (Reprice change) next sent e = absurd cc
+step_at_rest b cap (Revise (OfPlan change)) next sent e = absurd cc
+step_at_rest b cap (Revise (OfRule rule)) next sent e = absurd cc
 step_at_rest b cap (Adjudicate from bytes advice) next sent e = absurd cc
 
 abbrev pub book_cap : Power Book Book → ℕ
 book_cap (Up b) = b.settings.cap
 book_cap (AtRest b) = b.settings.cap
 
-pub payer_over : (ctx : Context) (route : ℕ → RouteKey → Option ℕ) (node : Power Book Book) (cap : ℕ) (call : Call) (next : Power Book Book) (sent : List Sent) → RouteLasts ctx (rerouted ctx route) call → book_cap node ≤ cap
-    → payer_step ctx node call ≡ Done next sent → payer_step (rerouted ctx route) (book_with_cap cap node) call ≡ Done (book_with_cap cap next) sent
-payer_over ctx route (Up b) cap call next sent wide le e = step_up ctx route b cap call next sent wide le e
-payer_over ctx route (AtRest b) cap call next sent wide le e = step_at_rest b cap call next sent e
+pub payer_over : (ctx : Context) (route : ℕ → RouteKey → Option ℕ) (count : ℕ) (node : Power Book Book) (cap : ℕ) (call : Call) (next : Power Book Book) (sent : List Sent) → RouteLasts ctx (rerouted ctx route count) call → book_cap node ≤ cap
+    → payer_step ctx node call ≡ Done next sent → payer_step (rerouted ctx route count) (book_with_cap cap node) call ≡ Done (book_with_cap cap next) sent
+payer_over ctx route count (Up b) cap call next sent wide le e = step_up ctx route count b cap call next sent wide le e
+payer_over ctx route count (AtRest b) cap call next sent wide le e = step_at_rest b cap call next sent e
 
 -- ---- a cap stays
 
@@ -203,12 +205,14 @@ book_cap_stays ctx (Up b) Tick next sent e = absurd cc
 book_cap_stays ctx (Up b) (Take from bytes) next sent e = takes_capped ctx b unadvised from (ctx.read_envelope bytes) next sent e
 book_cap_stays ctx (Up b) Stop next sent e = capped_by _ next _ sent e
 book_cap_stays ctx (Up b) Start next sent e = absurd cc
-book_cap_stays ctx (Up b) (Reprice change) next sent e = reprice_capped b (ctx.reprice b.plan change) next sent e
+book_cap_stays ctx (Up b) (Revise (OfRule rule)) next sent e = absurd cc
+book_cap_stays ctx (Up b) (Revise (OfPlan change)) next sent e = reprice_capped b (ctx.reprice b.plan change) next sent e
 book_cap_stays ctx (Up b) (Adjudicate from bytes advice) next sent e = advised_capped ctx b from bytes advice b.settings.asks next sent e
 book_cap_stays ctx (AtRest b) (Submit text) next sent e = absurd cc
 book_cap_stays ctx (AtRest b) Tick next sent e = absurd cc
 book_cap_stays ctx (AtRest b) (Take from bytes) next sent e = absurd cc
 book_cap_stays ctx (AtRest b) Stop next sent e = absurd cc
 book_cap_stays ctx (AtRest b) Start next sent e = capped_by _ next _ sent e
-book_cap_stays ctx (AtRest b) (Reprice change) next sent e = absurd cc
+book_cap_stays ctx (AtRest b) (Revise (OfPlan change)) next sent e = absurd cc
+book_cap_stays ctx (AtRest b) (Revise (OfRule rule)) next sent e = absurd cc
 book_cap_stays ctx (AtRest b) (Adjudicate from bytes advice) next sent e = absurd cc

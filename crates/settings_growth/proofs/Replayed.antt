@@ -8,7 +8,7 @@ use Rattle.claim_model.specs.Readable.{route_key}
 use Rattle.claim_model.specs.Journal.{Journal, JournalAtRest}
 use Rattle.claim_model.specs.Table.{Table}
 use Rattle.claim_model.specs.Rows.{Book}
-use Rattle.claim_model.specs.Node.{Node, Pharmacy, Switch, Payer, Call, Submit, Tick, Take, Stop, Start, Reprice, Adjudicate, Power, Outcome, Done, pharmacy_step, switch_step, payer_step}
+use Rattle.claim_model.specs.Node.{Node, Pharmacy, Switch, Payer, Call, Submit, Tick, Take, Stop, Start, Revise, Adjudicate, Power, Outcome, Done, pharmacy_step, switch_step, payer_step}
 use Rattle.claim_model.specs.Settings.{WorldSettings, opening}
 use Rattle.claim_model.specs.Nodes.{AnyNode, OfPharmacy, OfSwitch, OfPayer, as_node, node_step, node_at}
 use Rattle.claim_model.specs.Logs.{Logged, node_after, replay, Makes}
@@ -55,25 +55,25 @@ both : (P Q : Logged → Type 0) (log : List Logged) → AllByRecursion P log �
 both P Q [] p q = tt
 both P Q (l ∷ log) p q = ((p.0, q.0), both P Q log p.1 q.1)
 
-pharmacy_log : (ctx : Context) (route : ℕ → RouteKey → Option ℕ) (cap : ℕ) (node : Power Journal JournalAtRest) (log : List Logged) → journal_cap node ≤ cap → Makes ctx (OfPharmacy node) log
-    → Alike (rerouted ctx route) (OfPharmacy (journal_with_cap cap node)) log (with_cap cap (replay ctx (OfPharmacy node) log))
-pharmacy_log ctx route cap node log le m =
-    alike OfPharmacy pharmacy_step (λ c a call. refl) ctx (rerouted ctx route) (journal_with_cap cap) (with_cap cap) (λ a. refl) (λ (a : Power Journal JournalAtRest). journal_cap a ≤ cap) (λ (l : Logged). ⊤)
-    (λ a l next p q e. (pharmacy_over ctx route a cap l.call next l.sent p e, subst (λ (n : ℕ). n ≤ cap) (sym (journal_cap_stays ctx a l.call next l.sent e)) p))
+pharmacy_log : (ctx : Context) (route : ℕ → RouteKey → Option ℕ) (count : ℕ) (cap : ℕ) (node : Power Journal JournalAtRest) (log : List Logged) → ctx.switches ≤ count → journal_cap node ≤ cap → Makes ctx (OfPharmacy node) log
+    → Alike (rerouted ctx route count) (OfPharmacy (journal_with_cap cap node)) log (with_cap cap (replay ctx (OfPharmacy node) log))
+pharmacy_log ctx route count cap node log more le m =
+    alike OfPharmacy pharmacy_step (λ c a call. refl) ctx (rerouted ctx route count) (journal_with_cap cap) (with_cap cap) (λ a. refl) (λ (a : Power Journal JournalAtRest). journal_cap a ≤ cap) (λ (l : Logged). ⊤)
+    (λ a l next p q e. (pharmacy_over ctx route count a cap l.call next l.sent more p e, subst (λ (n : ℕ). n ≤ cap) (sym (journal_cap_stays ctx a l.call next l.sent e)) p))
     node log le (nothing_asked log) m
 
-switch_log : (ctx : Context) (route : ℕ → RouteKey → Option ℕ) (node : Power Table ℕ) (log : List Logged) → RoutesLast ctx (rerouted ctx route) log → AllByRecursion (λ (l : Logged). RejectionStays ctx (rerouted ctx route) l.call) log → Makes ctx (OfSwitch node) log
-    → Alike (rerouted ctx route) (OfSwitch node) log (replay ctx (OfSwitch node) log)
-switch_log ctx route node log last stays m =
-    alike OfSwitch switch_step (λ c a call. refl) ctx (rerouted ctx route) (λ (a : Power Table ℕ). a) (λ (n : AnyNode). n) (λ a. refl) (λ (a : Power Table ℕ). ⊤) (λ (l : Logged). RouteLasts ctx (rerouted ctx route) l.call × RejectionStays ctx (rerouted ctx route) l.call)
-    (λ a l next p q e. (switch_over ctx route a l.call q.0 q.1 ∙ e, tt))
-    node log tt (both (λ (l : Logged). RouteLasts ctx (rerouted ctx route) l.call) (λ (l : Logged). RejectionStays ctx (rerouted ctx route) l.call) log last stays) m
+switch_log : (ctx : Context) (route : ℕ → RouteKey → Option ℕ) (count : ℕ) (node : Power Table ℕ) (log : List Logged) → RoutesLast ctx (rerouted ctx route count) log → AllByRecursion (λ (l : Logged). RejectionStays ctx (rerouted ctx route count) l.call) log → Makes ctx (OfSwitch node) log
+    → Alike (rerouted ctx route count) (OfSwitch node) log (replay ctx (OfSwitch node) log)
+switch_log ctx route count node log last stays m =
+    alike OfSwitch switch_step (λ c a call. refl) ctx (rerouted ctx route count) (λ (a : Power Table ℕ). a) (λ (n : AnyNode). n) (λ a. refl) (λ (a : Power Table ℕ). ⊤) (λ (l : Logged). RouteLasts ctx (rerouted ctx route count) l.call × RejectionStays ctx (rerouted ctx route count) l.call)
+    (λ a l next p q e. (switch_over ctx route count a l.call q.0 q.1 ∙ e, tt))
+    node log tt (both (λ (l : Logged). RouteLasts ctx (rerouted ctx route count) l.call) (λ (l : Logged). RejectionStays ctx (rerouted ctx route count) l.call) log last stays) m
 
-payer_log : (ctx : Context) (route : ℕ → RouteKey → Option ℕ) (cap : ℕ) (node : Power Book Book) (log : List Logged) → RoutesLast ctx (rerouted ctx route) log → book_cap node ≤ cap → Makes ctx (OfPayer node) log
-    → Alike (rerouted ctx route) (OfPayer (book_with_cap cap node)) log (with_cap cap (replay ctx (OfPayer node) log))
-payer_log ctx route cap node log last le m =
-    alike OfPayer payer_step (λ c a call. refl) ctx (rerouted ctx route) (book_with_cap cap) (with_cap cap) (λ a. refl) (λ (a : Power Book Book). book_cap a ≤ cap) (λ (l : Logged). RouteLasts ctx (rerouted ctx route) l.call)
-    (λ a l next p q e. (payer_over ctx route a cap l.call next l.sent q p e, subst (λ (n : ℕ). n ≤ cap) (sym (book_cap_stays ctx a l.call next l.sent e)) p))
+payer_log : (ctx : Context) (route : ℕ → RouteKey → Option ℕ) (count : ℕ) (cap : ℕ) (node : Power Book Book) (log : List Logged) → RoutesLast ctx (rerouted ctx route count) log → book_cap node ≤ cap → Makes ctx (OfPayer node) log
+    → Alike (rerouted ctx route count) (OfPayer (book_with_cap cap node)) log (with_cap cap (replay ctx (OfPayer node) log))
+payer_log ctx route count cap node log last le m =
+    alike OfPayer payer_step (λ c a call. refl) ctx (rerouted ctx route count) (book_with_cap cap) (with_cap cap) (λ a. refl) (λ (a : Power Book Book). book_cap a ≤ cap) (λ (l : Logged). RouteLasts ctx (rerouted ctx route count) l.call)
+    (λ a l next p q e. (payer_over ctx route count a cap l.call next l.sent q p e, subst (λ (n : ℕ). n ≤ cap) (sym (book_cap_stays ctx a l.call next l.sent e)) p))
     node log le last m
 
 -- a switch comes to a switch, which has no cap to raise
@@ -83,40 +83,40 @@ switch_end ctx cap node (l ∷ log) m =
     let k = of_kind OfSwitch (switch_step ctx node l.call) (node_after (OfSwitch node) (node_step ctx (OfSwitch node) l.call)) l.sent m.0 in
     subst (λ (x : AnyNode). replay ctx x log ≡ with_cap cap (replay ctx x log)) k.same (switch_end ctx cap k.after log (subst (λ (x : AnyNode). Makes ctx x log) (sym k.same) m.1))
 
-over_by_kind : (ctx : Context) (route : ℕ → RouteKey → Option ℕ) (s t : WorldSettings) (node : Node) (before : AnyNode) (log : List Logged) → NodesGrow s t → node_at (opening s) node ≡ Some before
-    → RoutesLast ctx (rerouted ctx route) log → RejectionsStay ctx (rerouted ctx route) node log → Makes ctx before log → GoesOver ctx (rerouted ctx route) t node before log
-over_by_kind ctx route s t (Pharmacy n) before log g is last stays m =
+over_by_kind : (ctx : Context) (route : ℕ → RouteKey → Option ℕ) (count : ℕ) (s t : WorldSettings) (node : Node) (before : AnyNode) (log : List Logged) → ctx.switches ≤ count → NodesGrow s t → node_at (opening s) node ≡ Some before
+    → RoutesLast ctx (rerouted ctx route count) log → RejectionsStay ctx (rerouted ctx route count) node log → Makes ctx before log → GoesOver ctx (rerouted ctx route count) t node before log
+over_by_kind ctx route count s t (Pharmacy n) before log more g is last stays m =
     let p = pharmacy_there s t n before g.pharmacies is in
-    subst (λ (x : AnyNode). GoesOver ctx (rerouted ctx route) t (Pharmacy n) x log) (sym p.is)
-    (let a = pharmacy_log ctx route p.cap p.node log p.room (subst (λ (x : AnyNode). Makes ctx x log) p.is m) in
+    subst (λ (x : AnyNode). GoesOver ctx (rerouted ctx route count) t (Pharmacy n) x log) (sym p.is)
+    (let a = pharmacy_log ctx route count p.cap p.node log more p.room (subst (λ (x : AnyNode). Makes ctx x log) p.is m) in
     record { cap = p.cap; opens = p.opens; makes = a.makes; leads = a.leads })
-over_by_kind ctx route s t (Switch n) before log g is last stays m =
+over_by_kind ctx route count s t (Switch n) before log more g is last stays m =
     let p = switch_there s t n before g.switches is in
-    subst (λ (x : AnyNode). GoesOver ctx (rerouted ctx route) t (Switch n) x log) (sym p.is)
+    subst (λ (x : AnyNode). GoesOver ctx (rerouted ctx route count) t (Switch n) x log) (sym p.is)
     (let made : Makes ctx (OfSwitch p.node) log = subst (λ (x : AnyNode). Makes ctx x log) p.is m in
-    let a = switch_log ctx route p.node log last stays made in
+    let a = switch_log ctx route count p.node log last stays made in
     record { cap = 0; opens = p.opens; makes = a.makes; leads = a.leads ∙ switch_end ctx 0 p.node log made })
-over_by_kind ctx route s t (Payer n) before log g is last stays m =
+over_by_kind ctx route count s t (Payer n) before log more g is last stays m =
     let p = payer_there s t n before g.payers is in
-    subst (λ (x : AnyNode). GoesOver ctx (rerouted ctx route) t (Payer n) x log) (sym p.is)
-    (let a = payer_log ctx route p.cap p.node log last p.room (subst (λ (x : AnyNode). Makes ctx x log) p.is m) in
+    subst (λ (x : AnyNode). GoesOver ctx (rerouted ctx route count) t (Payer n) x log) (sym p.is)
+    (let a = payer_log ctx route count p.cap p.node log last p.room (subst (λ (x : AnyNode). Makes ctx x log) p.is m) in
     record { cap = p.cap; opens = p.opens; makes = a.makes; leads = a.leads })
 
 -- a log whose requests have the routes that they had
-pub goes_over_lasting : (ctx wider : Context) (s t : WorldSettings) (node : Node) (before : AnyNode) (log : List Logged) → wider ≡ record ctx { route = wider.route } → NodesGrow s t → node_at (opening s) node ≡ Some before
+pub goes_over_lasting : (ctx wider : Context) (s t : WorldSettings) (node : Node) (before : AnyNode) (log : List Logged) → wider ≡ record ctx { route = wider.route; switches = wider.switches } → ctx.switches ≤ wider.switches → NodesGrow s t → node_at (opening s) node ≡ Some before
     → RoutesLast ctx wider log → RejectionsStay ctx wider node log → Makes ctx before log → GoesOver ctx wider t node before log
-goes_over_lasting ctx wider s t node before log e g is last stays m =
+goes_over_lasting ctx wider s t node before log e more g is last stays m =
     subst (λ (x : Context). GoesOver ctx x t node before log) (sym e)
-    (over_by_kind ctx wider.route s t node before log g is (subst (λ (x : Context). RoutesLast ctx x log) e last) (subst (λ (x : Context). RejectionsStay ctx x node log) e stays) m)
+    (over_by_kind ctx wider.route wider.switches s t node before log more g is (subst (λ (x : Context). RoutesLast ctx x log) e last) (subst (λ (x : Context). RejectionsStay ctx x node log) e stays) m)
 
 all_last : (ctx wider : Context) (log : List Logged) → Widens ctx wider → RoutesLast ctx wider log
 all_last ctx wider [] w = tt
-all_last ctx wider (l ∷ log) w = (subst (λ (x : Context). RouteLasts ctx x l.call) (sym w.reading) (lasts ctx wider.route l.call w.routes), all_last ctx wider log w)
+all_last ctx wider (l ∷ log) w = (subst (λ (x : Context). RouteLasts ctx x l.call) (sym w.reading) (lasts ctx wider.route wider.switches l.call w.routes), all_last ctx wider log w)
 
 pub goes_over : (ctx wider : Context) (s t : WorldSettings) (node : Node) (before : AnyNode) (log : List Logged) → Grows ctx wider s t → node_at (opening s) node ≡ Some before → RejectionsStay ctx wider node log → Makes ctx before log
     → GoesOver ctx wider t node before log
 goes_over ctx wider s t node before log g is stays m =
-    goes_over_lasting ctx wider s t node before log g.widens.reading (record { pharmacies = g.pharmacies; switches = g.switches; payers = g.payers }) is (all_last ctx wider log g.widens) stays m
+    goes_over_lasting ctx wider s t node before log g.widens.reading g.widens.switches (record { pharmacies = g.pharmacies; switches = g.switches; payers = g.payers }) is (all_last ctx wider log g.widens) stays m
 
 -- what was of the old pharmacies has the route that it had
 own_lasts : (ctx wider : Context) (s : WorldSettings) (call : Call) → WidensFor s ctx wider → IsOwnCall ctx s call → RouteLasts ctx wider call
@@ -125,7 +125,7 @@ own_lasts ctx wider s (Submit text) w own = tt
 own_lasts ctx wider s Tick w own = tt
 own_lasts ctx wider s Stop w own = tt
 own_lasts ctx wider s Start w own = tt
-own_lasts ctx wider s (Reprice change) w own = tt
+own_lasts ctx wider s (Revise change) w own = tt
 own_lasts ctx wider s (Adjudicate from bytes advice) w own = λ e h payer opened is reads. w.routes e.id.number (route_key h) payer (own e h opened is reads)
 
 own_last : (ctx wider : Context) (s : WorldSettings) (log : List Logged) → WidensFor s ctx wider → HasOwnCalls ctx s log → RoutesLast ctx wider log
@@ -135,7 +135,7 @@ own_last ctx wider s (l ∷ log) w own = (own_lasts ctx wider s l.call w own.0, 
 pub goes_over_for : (ctx wider : Context) (s t : WorldSettings) (node : Node) (before : AnyNode) (log : List Logged) → GrowsFor ctx wider s t → node_at (opening s) node ≡ Some before → HasOwnCalls ctx s log → RejectionsStay ctx wider node log → Makes ctx before log
     → GoesOver ctx wider t node before log
 goes_over_for ctx wider s t node before log g is own stays m =
-    goes_over_lasting ctx wider s t node before log g.widens.reading g.nodes is (own_last ctx wider s log g.widens own) stays m
+    goes_over_lasting ctx wider s t node before log g.widens.reading g.widens.switches g.nodes is (own_last ctx wider s log g.widens own) stays m
 
 -- a log that goes on
 

@@ -1,12 +1,12 @@
--- The same reading of bytes under other routes, and what outcomes are with another node.
+-- The same reading of bytes under other routes and among more switches, and what outcomes are with another node.
 use Rattle.std.proofs.Common.{◌≡◌, ℕ, List, Option, ap}
 use Rattle.claim_model.specs.Words.{RouteKey}
 use Rattle.claim_model.specs.Context.{Context}
 use Rattle.claim_model.specs.Node.{Sent, Outcome, Done, Refused}
 use Rattle.claim_model.specs.Nodes.{AnyNode, as_node}
 
-abbrev pub rerouted : Context → (ℕ → RouteKey → Option ℕ) → Context
-rerouted ctx route = record ctx { route = route }
+abbrev pub rerouted : Context → (ℕ → RouteKey → Option ℕ) → ℕ → Context
+rerouted ctx route count = record ctx { route = route; switches = count }
 
 -- an outcome with another node
 abbrev pub leading : {A : Type 0} → (A → A) → Outcome A → Outcome A

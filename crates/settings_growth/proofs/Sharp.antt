@@ -7,7 +7,7 @@ use Rattle.claim_model.specs.Context.{Context}
 use Rattle.claim_model.specs.Readable.{readable, route_key, payer_for, same_id, is_request}
 use Rattle.claim_model.specs.declared.refusal.Refusal.{Refusal}
 use Rattle.claim_model.specs.Table.{Table, Slot, slot_of, Requested, requested_again, entered_where, requested_by, requested_readable, requested, filled, Responded, responded_with, responded_by, responded_readable, responded}
-use Rattle.claim_model.specs.Node.{Node, Pharmacy, Switch, Payer, Power, Up, AtRest, Sent, Call, Submit, Tick, Take, Stop, Start, Reprice, Adjudicate, Outcome, Done, Refused, after_request, after_response, switch_takes, switch_step}
+use Rattle.claim_model.specs.Node.{Node, Pharmacy, Switch, Payer, Power, Up, AtRest, Sent, Call, Submit, Tick, Take, Stop, Start, Revise, Adjudicate, Outcome, Done, Refused, after_request, after_response, switch_takes, switch_step}
 use Rattle.claim_model.specs.Settings.{WorldSettings, switches_of, opening}
 use Rattle.claim_model.specs.Nodes.{AnyNode, OfSwitch, node_step, node_at}
 use Rattle.claim_model.specs.Logs.{Logged, node_after, Makes}
@@ -125,13 +125,13 @@ stays_routed ctx (AtRest cap) Start next sent all e = let same : Up (record { ca
 stays_routed ctx (Up t) (Submit text) next sent all e = absurd cc
 stays_routed ctx (Up t) Tick next sent all e = absurd cc
 stays_routed ctx (Up t) Start next sent all e = absurd cc
-stays_routed ctx (Up t) (Reprice change) next sent all e = absurd cc
+stays_routed ctx (Up t) (Revise change) next sent all e = absurd cc
 stays_routed ctx (Up t) (Adjudicate from bytes advice) next sent all e = absurd cc
 stays_routed ctx (AtRest cap) (Submit text) next sent all e = absurd cc
 stays_routed ctx (AtRest cap) Tick next sent all e = absurd cc
 stays_routed ctx (AtRest cap) (Take from bytes) next sent all e = absurd cc
 stays_routed ctx (AtRest cap) Stop next sent all e = absurd cc
-stays_routed ctx (AtRest cap) (Reprice change) next sent all e = absurd cc
+stays_routed ctx (AtRest cap) (Revise change) next sent all e = absurd cc
 stays_routed ctx (AtRest cap) (Adjudicate from bytes advice) next sent all e = absurd cc
 
 -- ---- a rejected request that has a route now is forwarded now
@@ -161,21 +161,21 @@ two_ways ctx t e h payer next after sent a b =
     let wrong : true ≡ false = back ∙ sym on in
     absurd cc
 
-by_slot : (ctx : Context) (route : ℕ → RouteKey → Option ℕ) (t : Table) (e : Envelope) (h : RequestHeader) (payer : ℕ) (o : Option Slot) (next after : Power Table ℕ) (sent : List Sent) → slot_of e.id t.entries ≡ o → AllByRecursion (IsRouted ctx) t.entries
+by_slot : (ctx : Context) (route : ℕ → RouteKey → Option ℕ) (count : ℕ) (t : Table) (e : Envelope) (h : RequestHeader) (payer : ℕ) (o : Option Slot) (next after : Power Table ℕ) (sent : List Sent) → slot_of e.id t.entries ≡ o → AllByRecursion (IsRouted ctx) t.entries
     → readable ctx e.payload ≡ Some h → payer_for ctx e.id h ≡ None → route e.id.number (route_key h) ≡ Some payer
-    → after_request e.id (requested_by ctx t e h o) ≡ Done next sent → after_request e.id (requested_by (rerouted ctx route) t e h o) ≡ Done after sent → ⊥
+    → after_request e.id (requested_by ctx t e h o) ≡ Done next sent → after_request e.id (requested_by (rerouted ctx route count) t e h o) ≡ Done after sent → ⊥
 unfolding sent_by
-by_slot ctx route t e h payer None next after sent slot all reads none some a b =
+by_slot ctx route count t e h payer None next after sent slot all reads none some a b =
     two_ways ctx t e h payer next after sent (sym (ap (sent_by ctx t e h) none) ∙ a) (sym (ap (sent_by ctx t e h) some) ∙ b)
-by_slot ctx route t e h payer (Some s) next after sent slot all reads none some a b = by_test (bytes_eq s.request e.payload) refl a
+by_slot ctx route count t e h payer (Some s) next after sent slot all reads none some a b = by_test (bytes_eq s.request e.payload) refl a
   where
     by_test : (same : Bool) → bytes_eq s.request e.payload ≡ same → after_request e.id (cond same (Ok (requested_again ctx t e h s.answer)) (Err Refusal.NumberReused)) ≡ Done next sent → ⊥
     by_test true same is = slot_routed ctx t.entries e.id s h all slot (ap (readable ctx) (bytes_same s.request e.payload same) ∙ reads) none
     by_test false same is = absurd cc
 
-reads_alike : (ctx : Context) (route : ℕ → RouteKey → Option ℕ) (text : List ℕ) → readable (rerouted ctx route) text ≡ readable ctx text
+reads_alike : (ctx : Context) (route : ℕ → RouteKey → Option ℕ) (count : ℕ) (text : List ℕ) → readable (rerouted ctx route count) text ≡ readable ctx text
 unfolding readable
-reads_alike ctx route text = refl
+reads_alike ctx route count text = refl
 
 asks : (ctx : Context) (t : Table) (e : Envelope) (h : RequestHeader) → is_request e ≡ true → readable ctx e.payload ≡ Some h → switch_takes ctx t (Ok e) ≡ after_request e.id (requested_by ctx t e h (slot_of e.id t.entries))
 unfolding requested
@@ -183,46 +183,46 @@ asks ctx t e h is reads =
     ap (λ (b : Bool). cond b (after_request e.id (cond b (requested_readable ctx t e (readable ctx e.payload)) (Err Refusal.Unreadable))) (after_response e.id (responded ctx t e))) is
     ∙ ap (λ (o : Option RequestHeader). after_request e.id (requested_readable ctx t e o)) reads
 
-forwarded : (ctx : Context) (route : ℕ → RouteKey → Option ℕ) (t : Table) (o : Result Envelope EnvelopeFault) (e : Envelope) (h : RequestHeader) (payer : ℕ) (next after : Power Table ℕ) (sent : List Sent) → AllByRecursion (IsRouted ctx) t.entries → o ≡ Ok e → is_request e ≡ true → readable ctx e.payload ≡ Some h
-    → payer_for ctx e.id h ≡ None → route e.id.number (route_key h) ≡ Some payer → switch_takes ctx t o ≡ Done next sent → switch_takes (rerouted ctx route) t o ≡ Done after sent → ⊥
-forwarded ctx route t o e h payer next after sent all opened is reads none some a b =
-    by_slot ctx route t e h payer (slot_of e.id t.entries) next after sent refl all reads none some
+forwarded : (ctx : Context) (route : ℕ → RouteKey → Option ℕ) (count : ℕ) (t : Table) (o : Result Envelope EnvelopeFault) (e : Envelope) (h : RequestHeader) (payer : ℕ) (next after : Power Table ℕ) (sent : List Sent) → AllByRecursion (IsRouted ctx) t.entries → o ≡ Ok e → is_request e ≡ true → readable ctx e.payload ≡ Some h
+    → payer_for ctx e.id h ≡ None → route e.id.number (route_key h) ≡ Some payer → switch_takes ctx t o ≡ Done next sent → switch_takes (rerouted ctx route count) t o ≡ Done after sent → ⊥
+forwarded ctx route count t o e h payer next after sent all opened is reads none some a b =
+    by_slot ctx route count t e h payer (slot_of e.id t.entries) next after sent refl all reads none some
     (sym (asks ctx t e h is reads) ∙ (ap (switch_takes ctx t) (sym opened) ∙ a))
-    (sym (asks (rerouted ctx route) t e h is (reads_alike ctx route e.payload ∙ reads)) ∙ (ap (switch_takes (rerouted ctx route) t) (sym opened) ∙ b))
+    (sym (asks (rerouted ctx route count) t e h is (reads_alike ctx route count e.payload ∙ reads)) ∙ (ap (switch_takes (rerouted ctx route count) t) (sym opened) ∙ b))
 
-by_route : (ctx : Context) (route : ℕ → RouteKey → Option ℕ) (t : Table) (e : Envelope) (h : RequestHeader) (bytes : List ℕ) (o : Option ℕ) (next after : Power Table ℕ) (sent : List Sent) → AllByRecursion (IsRouted ctx) t.entries → ctx.read_envelope bytes ≡ Ok e → is_request e ≡ true → readable ctx e.payload ≡ Some h
-    → payer_for ctx e.id h ≡ None → route e.id.number (route_key h) ≡ o → switch_takes ctx t (ctx.read_envelope bytes) ≡ Done next sent → switch_takes (rerouted ctx route) t (ctx.read_envelope bytes) ≡ Done after sent → route e.id.number (route_key h) ≡ None
-by_route ctx route t e h bytes None next after sent all opened is reads none some a b = some
-by_route ctx route t e h bytes (Some payer) next after sent all opened is reads none some a b =
-    absurd (forwarded ctx route t (ctx.read_envelope bytes) e h payer next after sent all opened is reads none some a b)
+by_route : (ctx : Context) (route : ℕ → RouteKey → Option ℕ) (count : ℕ) (t : Table) (e : Envelope) (h : RequestHeader) (bytes : List ℕ) (o : Option ℕ) (next after : Power Table ℕ) (sent : List Sent) → AllByRecursion (IsRouted ctx) t.entries → ctx.read_envelope bytes ≡ Ok e → is_request e ≡ true → readable ctx e.payload ≡ Some h
+    → payer_for ctx e.id h ≡ None → route e.id.number (route_key h) ≡ o → switch_takes ctx t (ctx.read_envelope bytes) ≡ Done next sent → switch_takes (rerouted ctx route count) t (ctx.read_envelope bytes) ≡ Done after sent → route e.id.number (route_key h) ≡ None
+by_route ctx route count t e h bytes None next after sent all opened is reads none some a b = some
+by_route ctx route count t e h bytes (Some payer) next after sent all opened is reads none some a b =
+    absurd (forwarded ctx route count t (ctx.read_envelope bytes) e h payer next after sent all opened is reads none some a b)
 
-one_stays : (ctx : Context) (route : ℕ → RouteKey → Option ℕ) (node : Power Table ℕ) (call : Call) (next after : Power Table ℕ) (sent : List Sent) → Routed ctx node → switch_step ctx node call ≡ Done next sent → switch_step (rerouted ctx route) node call ≡ Done after sent → RejectionStays ctx (rerouted ctx route) call
-one_stays ctx route (Up t) (Take from bytes) next after sent all a b = λ e h opened is reads none. by_route ctx route t e h bytes (route e.id.number (route_key h)) next after sent all opened is reads none refl a b
-one_stays ctx route (AtRest cap) (Take from bytes) next after sent all a b = absurd cc
-one_stays ctx route node (Submit text) next after sent all a b = tt
-one_stays ctx route node Tick next after sent all a b = tt
-one_stays ctx route node Stop next after sent all a b = tt
-one_stays ctx route node Start next after sent all a b = tt
-one_stays ctx route node (Reprice change) next after sent all a b = tt
-one_stays ctx route node (Adjudicate from bytes advice) next after sent all a b = tt
+one_stays : (ctx : Context) (route : ℕ → RouteKey → Option ℕ) (count : ℕ) (node : Power Table ℕ) (call : Call) (next after : Power Table ℕ) (sent : List Sent) → Routed ctx node → switch_step ctx node call ≡ Done next sent → switch_step (rerouted ctx route count) node call ≡ Done after sent → RejectionStays ctx (rerouted ctx route count) call
+one_stays ctx route count (Up t) (Take from bytes) next after sent all a b = λ e h opened is reads none. by_route ctx route count t e h bytes (route e.id.number (route_key h)) next after sent all opened is reads none refl a b
+one_stays ctx route count (AtRest cap) (Take from bytes) next after sent all a b = absurd cc
+one_stays ctx route count node (Submit text) next after sent all a b = tt
+one_stays ctx route count node Tick next after sent all a b = tt
+one_stays ctx route count node Stop next after sent all a b = tt
+one_stays ctx route count node Start next after sent all a b = tt
+one_stays ctx route count node (Revise change) next after sent all a b = tt
+one_stays ctx route count node (Adjudicate from bytes advice) next after sent all a b = tt
 
 -- ---- a whole log
 
 same_after : (x y : Power Table ℕ) (sent other : List Sent) → ◌≡◌ {A = Outcome (Power Table ℕ)} (Done x sent) (Done y other) → x ≡ y
 same_after x y sent other e = cc
 
-all_stay : (ctx : Context) (route : ℕ → RouteKey → Option ℕ) (node : Power Table ℕ) (log : List Logged) → ((number : ℕ) (key : RouteKey) (payer : ℕ) → ctx.route number key ≡ Some payer → route number key ≡ Some payer) → Routed ctx node
-    → Makes ctx (OfSwitch node) log → Makes (rerouted ctx route) (OfSwitch node) log → AllByRecursion (λ (l : Logged). RejectionStays ctx (rerouted ctx route) l.call) log
-all_stay ctx route node [] wide routed m n = tt
-all_stay ctx route node (l ∷ log) wide routed m n =
+all_stay : (ctx : Context) (route : ℕ → RouteKey → Option ℕ) (count : ℕ) (node : Power Table ℕ) (log : List Logged) → ((number : ℕ) (key : RouteKey) (payer : ℕ) → ctx.route number key ≡ Some payer → route number key ≡ Some payer) → Routed ctx node
+    → Makes ctx (OfSwitch node) log → Makes (rerouted ctx route count) (OfSwitch node) log → AllByRecursion (λ (l : Logged). RejectionStays ctx (rerouted ctx route count) l.call) log
+all_stay ctx route count node [] wide routed m n = tt
+all_stay ctx route count node (l ∷ log) wide routed m n =
     let k = of_kind OfSwitch (switch_step ctx node l.call) (node_after (OfSwitch node) (node_step ctx (OfSwitch node) l.call)) l.sent m.0 in
-    let j = of_kind OfSwitch (switch_step (rerouted ctx route) node l.call) (node_after (OfSwitch node) (node_step (rerouted ctx route) (OfSwitch node) l.call)) l.sent n.0 in
-    let stays = one_stays ctx route node l.call k.after j.after l.sent routed k.is j.is in
-    let same : j.after ≡ k.after = same_after j.after k.after l.sent l.sent (sym j.is ∙ (switch_over ctx route node l.call (lasts ctx route l.call wide) stays ∙ k.is)) in (
+    let j = of_kind OfSwitch (switch_step (rerouted ctx route count) node l.call) (node_after (OfSwitch node) (node_step (rerouted ctx route count) (OfSwitch node) l.call)) l.sent n.0 in
+    let stays = one_stays ctx route count node l.call k.after j.after l.sent routed k.is j.is in
+    let same : j.after ≡ k.after = same_after j.after k.after l.sent l.sent (sym j.is ∙ (switch_over ctx route count node l.call (lasts ctx route count l.call wide) stays ∙ k.is)) in (
       stays,
-      all_stay ctx route k.after log wide (stays_routed ctx node l.call k.after l.sent routed k.is)
+      all_stay ctx route count k.after log wide (stays_routed ctx node l.call k.after l.sent routed k.is)
           (subst (λ (x : AnyNode). Makes ctx x log) (sym k.same) m.1)
-          (subst (λ (x : Power Table ℕ). Makes (rerouted ctx route) (OfSwitch x) log) same (subst (λ (x : AnyNode). Makes (rerouted ctx route) x log) (sym j.same) n.1)),
+          (subst (λ (x : Power Table ℕ). Makes (rerouted ctx route count) (OfSwitch x) log) same (subst (λ (x : AnyNode). Makes (rerouted ctx route count) x log) (sym j.same) n.1)),
     )
 
 opens_routed : (ctx : Context) (caps : List ℕ) (k : ℕ) (node : Power Table ℕ) → slice_get (switches_of caps) k ≡ Some node → Routed ctx node
@@ -240,20 +240,20 @@ switch_routed ctx s (suc k) node e =
     same_switch : (x y : Power Table ℕ) → OfSwitch x ≡ OfSwitch y → x ≡ y
     same_switch x y q = cc
 
-by_kind : (ctx : Context) (route : ℕ → RouteKey → Option ℕ) (s t : WorldSettings) (node : Node) (before after : AnyNode) (log : List Logged) → Grows ctx (rerouted ctx route) s t → node_at (opening s) node ≡ Some before → node_at (opening t) node ≡ Some after
-    → Makes ctx before log → Makes (rerouted ctx route) after log → RejectionsStay ctx (rerouted ctx route) node log
-by_kind ctx route s t (Pharmacy n) before after log g is there m k = tt
-by_kind ctx route s t (Payer n) before after log g is there m k = tt
-by_kind ctx route s t (Switch n) before after log g is there m k =
+by_kind : (ctx : Context) (route : ℕ → RouteKey → Option ℕ) (count : ℕ) (s t : WorldSettings) (node : Node) (before after : AnyNode) (log : List Logged) → Grows ctx (rerouted ctx route count) s t → node_at (opening s) node ≡ Some before → node_at (opening t) node ≡ Some after
+    → Makes ctx before log → Makes (rerouted ctx route count) after log → RejectionsStay ctx (rerouted ctx route count) node log
+by_kind ctx route count s t (Pharmacy n) before after log g is there m k = tt
+by_kind ctx route count s t (Payer n) before after log g is there m k = tt
+by_kind ctx route count s t (Switch n) before after log g is there m k =
     let p = switch_there s t n before g.switches is in
     let e : ◌≡◌ {A = Option AnyNode} (Some after) (Some (OfSwitch p.node)) = sym there ∙ p.opens in
     let same : after ≡ OfSwitch p.node = same_some after (OfSwitch p.node) e in
-    all_stay ctx route p.node log g.widens.routes (switch_routed ctx s n p.node (is ∙ ap (λ (x : AnyNode). Some x) p.is))
-    (subst (λ (x : AnyNode). Makes ctx x log) p.is m) (subst (λ (x : AnyNode). Makes (rerouted ctx route) x log) same k)
+    all_stay ctx route count p.node log g.widens.routes (switch_routed ctx s n p.node (is ∙ ap (λ (x : AnyNode). Some x) p.is))
+    (subst (λ (x : AnyNode). Makes ctx x log) p.is m) (subst (λ (x : AnyNode). Makes (rerouted ctx route count) x log) same k)
 
 pub have_to_stay : (ctx wider : Context) (s t : WorldSettings) (node : Node) (before after : AnyNode) (log : List Logged) → Grows ctx wider s t → node_at (opening s) node ≡ Some before → node_at (opening t) node ≡ Some after → Makes ctx before log → Makes wider after log
     → RejectionsStay ctx wider node log
 have_to_stay ctx wider s t node before after log g is there m k =
     let e = g.widens.reading in
     subst (λ (x : Context). RejectionsStay ctx x node log) (sym e)
-    (by_kind ctx wider.route s t node before after log (subst (λ (x : Context). Grows ctx x s t) e g) is there m (subst (λ (x : Context). Makes x after log) e k))
+    (by_kind ctx wider.route wider.switches s t node before after log (subst (λ (x : Context). Grows ctx x s t) e g) is there m (subst (λ (x : Context). Makes x after log) e k))

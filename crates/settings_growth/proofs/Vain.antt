@@ -20,7 +20,7 @@ still_entries phases (e ∷ es) all = ap₂ (λ (s : State) (more : List Entry).
 
 ticked_still : (j : Journal) → HasNoOpenEntry j → ticked j ≡ j
 unfolding ticked
-ticked_still j all = ap (λ (es : List Entry). record { number = j.number; settings = j.settings; entries = es }) (still_entries (circle j.settings) j.entries all)
+ticked_still j all = ap (λ (es : List Entry). record { number = j.number; settings = j.settings; rule = j.rule; entries = es }) (still_entries (circle j.rule) j.entries all)
 
 nothing_from : (ctx : Context) (j : Journal) (number : ℕ) (es : List Entry) → AllByRecursion HasAnswer es → due_from ctx j number es ≡ []
 nothing_from ctx j number [] all = refl

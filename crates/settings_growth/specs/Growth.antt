@@ -7,14 +7,15 @@ use Rattle.claim_model.specs.Readable.{readable, payer_for, is_request}
 use Rattle.claim_model.specs.Numbered.{numbered}
 use Rattle.claim_model.specs.Rows.{Book}
 use Rattle.claim_model.specs.Journal.{PharmacySettings, Journal, JournalAtRest}
-use Rattle.claim_model.specs.Node.{Node, Pharmacy, Switch, Payer, Power, Up, AtRest, Call, Submit, Tick, Take, Stop, Start, Reprice, Adjudicate}
+use Rattle.claim_model.specs.Node.{Node, Pharmacy, Switch, Payer, Power, Up, AtRest, Call, Submit, Tick, Take, Stop, Start, Revise, Adjudicate}
 use Rattle.claim_model.specs.Settings.{PayerSettings, WorldSettings}
 use Rattle.claim_model.specs.Nodes.{AnyNode, OfPharmacy, OfSwitch, OfPayer}
 use Rattle.claim_model.specs.Logs.{Logged}
 
--- the same reading of bytes, under which all that had a route has it still, to the same payer
+-- the same reading of bytes, under which all that had a route has it still, to the same payer, and there are no fewer switches
 pub record Widens (ctx wider : Context) : Type 0 where
-  pub reading : wider ≡ record ctx { route = wider.route }
+  pub reading : wider ≡ record ctx { route = wider.route; switches = wider.switches }
+  pub switches : ctx.switches ≤ wider.switches
   pub routes : (number : ℕ) (key : RouteKey) (payer : ℕ) → ctx.route number key ≡ Some payer → wider.route number key ≡ Some payer
 
 -- a pharmacy's settings are the same, but that the journal may have more entries
@@ -51,10 +52,12 @@ pub record IsOfPharmacy (s : WorldSettings) (qualifier provider : List ℕ) : Ty
   pub qualifier_is : pharmacy.qualifier ≡ qualifier
   pub provider_is : pharmacy.provider ≡ provider
 
--- the same reading of bytes, under which all that had a route has it still, to the same payer, where its provider is a pharmacy of these settings.
+-- the same reading of bytes, under which all that had a route has it still, to the same payer, where its provider is a pharmacy of these settings, and
+-- there are no fewer switches.
 -- Of other providers nothing is asked: they may get another book than the one that they would have had
 pub record WidensFor (s : WorldSettings) (ctx wider : Context) : Type 0 where
-  pub reading : wider ≡ record ctx { route = wider.route }
+  pub reading : wider ≡ record ctx { route = wider.route; switches = wider.switches }
+  pub switches : ctx.switches ≤ wider.switches
   pub routes : (number : ℕ) (key : RouteKey) (payer : ℕ) → IsOfPharmacy s key.qualifier key.provider → ctx.route number key ≡ Some payer → wider.route number key ≡ Some payer
 
 -- nodes grow: each is there under its number, as it was or with a larger cap, a switch's cap excepted; after them there may be more
@@ -98,7 +101,7 @@ RouteLasts ctx wider (Submit text) = ⊤
 RouteLasts ctx wider Tick = ⊤
 RouteLasts ctx wider Stop = ⊤
 RouteLasts ctx wider Start = ⊤
-RouteLasts ctx wider (Reprice change) = ⊤
+RouteLasts ctx wider (Revise change) = ⊤
 RouteLasts ctx wider (Adjudicate from bytes advice) = PayerLasts ctx wider bytes
 
 -- so has each request that a node took
@@ -116,7 +119,7 @@ IsOwnCall ctx s (Submit text) = ⊤
 IsOwnCall ctx s Tick = ⊤
 IsOwnCall ctx s Stop = ⊤
 IsOwnCall ctx s Start = ⊤
-IsOwnCall ctx s (Reprice change) = ⊤
+IsOwnCall ctx s (Revise change) = ⊤
 IsOwnCall ctx s (Adjudicate from bytes advice) = IsOwnPacket ctx s bytes
 
 -- so is each request that a node took
@@ -134,7 +137,7 @@ RejectionStays ctx wider (Submit text) = ⊤
 RejectionStays ctx wider Tick = ⊤
 RejectionStays ctx wider Stop = ⊤
 RejectionStays ctx wider Start = ⊤
-RejectionStays ctx wider (Reprice change) = ⊤
+RejectionStays ctx wider (Revise change) = ⊤
 RejectionStays ctx wider (Adjudicate from bytes advice) = ⊤
 
 -- what a switch has rejected for want of a route has none now. Of other nodes nothing is asked

@@ -1,9 +1,9 @@
 //! Logs under settings that give new providers books of their own.
 
-ghost use Rattle.std.specs.Prelude.{◌≡◌, [], ◌++◌, List, Some};
+ghost use Rattle.std.specs.Prelude.{◌≡◌, ℕ, ◌≤◌, [], ◌++◌, List, Some};
 ghost use Rattle.std.specs.List.{AllByRecursion};
 ghost use Rattle.bin_routes.specs.Row.{Row};
-ghost use Rattle.bin_routes.specs.Table.{routes_of};
+ghost use Rattle.bin_routes.specs.Table.{among, routes_of};
 ghost use Rattle.claim_model.specs.Bytes.{bytes_with};
 ghost use Rattle.claim_model.specs.Context.{Context};
 ghost use Rattle.claim_model.specs.Laws.{Laws};
@@ -17,7 +17,7 @@ ghost use Rattle.settings_growth.specs.Growth.{Grows, GrowsFor, NodesGrow, Widen
 ghost use Rattle.settings_growth.specs.GoingOver.{Added, GoesOver};
 ghost use Rattle.settings_growth.specs.Rows.{AreForNewcomers};
 
-use bin_routes::range_laws;
+use bin_routes::{number_laws, range_laws};
 
 /// In a legal run each request that a node took is of a pharmacy of the settings.
 pub fn requests_are_of_pharmacies()
@@ -29,9 +29,9 @@ pub fn requests_are_of_pharmacies()
 /// has none now: both can be seen from the log and the two tables, call by call.
 pub fn logs_with_their_routes_go_over()
     ensures { (ctx wider : Context) (s t : WorldSettings) (node : Node) (before : AnyNode) (log : List Logged)
-        → wider ≡ record ctx { route = wider.route } → NodesGrow s t → node_at (opening s) node ≡ Some before
-        → RoutesLast ctx wider log → RejectionsStay ctx wider node log → Makes ctx before log
-        → GoesOver ctx wider t node before log }
+        → wider ≡ record ctx { route = wider.route; switches = wider.switches } → ctx.switches ≤ wider.switches
+        → NodesGrow s t → node_at (opening s) node ≡ Some before → RoutesLast ctx wider log
+        → RejectionsStay ctx wider node log → Makes ctx before log → GoesOver ctx wider t node before log }
 {}
 
 /// Where what the old pharmacies had as a route is as it was, a log goes over whose requests are theirs, however other
@@ -59,12 +59,14 @@ pub fn runs_of_pharmacies_go_over()
         → IsInterleaving ctx s logs events → IsInterleaving wider t (logs ++ more) events }
 {}
 
-/// Rows for providers that are no pharmacy yet may be added after the others: the old pharmacies keep their payers.
+/// Rows for providers that are no pharmacy yet may be added after the others, and switches too: the old pharmacies keep their
+/// payers.
 pub fn rows_for_newcomers_may_be_added()
-    ensures { (s : WorldSettings) (rows more : List Row) → AreForNewcomers s more
-        → WidensFor s (bytes_with (routes_of rows)) (bytes_with (routes_of (rows ++ more))) }
+    ensures { (s : WorldSettings) (rows more : List Row) (old new : ℕ) → AreForNewcomers s more → old ≤ new
+        → WidensFor s (bytes_with (among old (routes_of rows))) (bytes_with (among new (routes_of (rows ++ more)))) }
 {
     range_laws();
+    number_laws();
 }
 
 /// Settings that grow for all providers grow for the old pharmacies; and what has grown so twice has grown so.

@@ -12,10 +12,10 @@ use Rattle.run_merge.specs.Merged.{FitsAlone}
 use Rattle.node_logged.specs.Setting.{context_of, opened}
 use Rattle.node_logged.specs.Holding.{Holding}
 use Rattle.bin_routes.specs.Row.{Row}
-use Rattle.bin_routes.specs.Table.{routes_of}
 use Rattle.claim_model.specs.Bytes.{bytes_with}
 use Rattle.claim_model.specs.Settings as opened
 use Rattle.switch_logs.specs.Made.{AreMade, AreMadeUnder, FitsUnder, Stand, all_under, if_none, log_of, nodes_of, unlogged, who}
+use Rattle.world_setup.specs.Taken.{routes_with}
 
 -- one of them goes on, and is who it was
 pub same_who : (xs : List Holding) (k : ℕ) (y d : Holding) → who y ≡ who (slice_index_or xs k d) → map who (slice_set xs k y) ≡ map who xs
@@ -79,8 +79,8 @@ are_made s logs held stands fit =
 pub made_alike : (s t : WorldSettings) (logs made : List NodeLog) → settings_seen t ≡ settings_seen s → t.routes.items ≡ s.routes.items → AreMadeUnder t logs made
     → AreMadeUnder s logs made
 made_alike s t logs made nodes routes are =
-    subst (λ (o : opened.WorldSettings). AreMade (bytes_with (routes_of s.routes.items)) o logs made) nodes
-    (subst (λ (rows : List Row). AreMade (bytes_with (routes_of rows)) (settings_seen t) logs made) routes are)
+    subst (λ (o : opened.WorldSettings). AreMade (bytes_with (routes_with o s.routes.items)) o logs made) nodes
+    (subst (λ (rows : List Row). AreMade (bytes_with (routes_with (settings_seen t) rows)) (settings_seen t) logs made) routes are)
 
 -- what was made of nodes that went on, and are who they were
 pub made_of : (s : WorldSettings) (logs made : List NodeLog) (before held : List Holding) → Stand s (unlogged logs (length s.switches.items)) before

@@ -1,6 +1,6 @@
 -- The parties of a world by themselves: they say what the world says, and hold what it holds.
 use Rattle.claim_model.specs.Context.{Context}
-use Rattle.claim_model.specs.Node.{Call, Submit, Tick, Take, Stop, Start, Reprice, Adjudicate}
+use Rattle.claim_model.specs.Node.{Call, Submit, Tick, Take, Stop, Start, Revise, Adjudicate}
 use Rattle.claim_model.specs.World.{World}
 use Rattle.claim_model.specs.Settings.{WorldSettings}
 use Rattle.claim_model.specs.Held.{journal_in, book_in}
@@ -20,7 +20,7 @@ vouched_later ctx w v Tick l x = x
 vouched_later ctx w v (Take from bytes) l x = carries_later ctx w v l bytes x
 vouched_later ctx w v Stop l x = x
 vouched_later ctx w v Start l x = x
-vouched_later ctx w v (Reprice change) l x = x
+vouched_later ctx w v (Revise revision) l x = x
 vouched_later ctx w v (Adjudicate from bytes advice) l x = carries_later ctx w v l bytes x
 
 sound_apart : (ctx : Context) (given : WorldSettings) (w : World) → Sound ctx given w → Sound ctx given (world_of (parties_in w))

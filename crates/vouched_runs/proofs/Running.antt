@@ -7,8 +7,8 @@ use Rattle.claim_model.specs.Numbered.{numbered}
 use Rattle.claim_model.specs.Rows.{Book}
 use Rattle.claim_model.specs.Journal.{Journal, JournalAtRest}
 use Rattle.claim_model.specs.Table.{Table}
-use Rattle.claim_model.specs.Node.{Node, Pharmacy, Switch, Payer, Power, Sent, Call, Submit, Tick, Stop, Start, Reprice, Done, Refused, pharmacy_step, switch_step, payer_step}
-use Rattle.claim_model.specs.World.{World, Event, Submission, Ticking, Delivery, Stopping, Starting, PlanChange, Adjudication, pharmacy_stepped, on_pharmacy, on_switch, payer_stepped, on_payer, on_node, step, run}
+use Rattle.claim_model.specs.Node.{Node, Pharmacy, Switch, Payer, Power, Sent, Call, Submit, Tick, Stop, Start, Revise, Done, Refused, pharmacy_step, switch_step, payer_step}
+use Rattle.claim_model.specs.World.{World, Event, Submission, Ticking, Delivery, Stopping, Starting, Revising, Adjudication, pharmacy_stepped, on_pharmacy, on_switch, payer_stepped, on_payer, on_node, step, run}
 use Rattle.claim_model.specs.Settings.{WorldSettings, Accepts, opening}
 use Rattle.claim_model.specs.Nodes.{Asked, taking, adjudicating, asked, asked_step}
 use Rattle.claim_model.specs.Carried.{IsVouched}
@@ -40,7 +40,7 @@ asked_vouched ctx w (Delivery k) a all e =
     subst (AskedVouched ctx w) t.2 (all_at (SoundPacket ctx w) w.packets k t.0 all t.1)
 asked_vouched ctx w (Stopping node) a all e = subst (AskedVouched ctx w) (same_some (record { node = node; call = Stop }) a e) tt
 asked_vouched ctx w (Starting node) a all e = subst (AskedVouched ctx w) (same_some (record { node = node; call = Start }) a e) tt
-asked_vouched ctx w (PlanChange n change) a all e = subst (AskedVouched ctx w) (same_some (record { node = Payer n; call = Reprice change }) a e) tt
+asked_vouched ctx w (Revising node revision) a all e = subst (AskedVouched ctx w) (same_some (record { node = node; call = Revise revision }) a e) tt
 asked_vouched ctx w (Adjudication k advice) a all e =
     let t = map_some (adjudicating advice) (numbered w.packets k) a e in
     subst (AskedVouched ctx w) t.2 (all_at (SoundPacket ctx w) w.packets k t.0 all t.1)

@@ -3,7 +3,7 @@ use Rattle.std.proofs.Common.{◌≡◌, ℕ, zero, suc, ◌<◌, ◌≤◌, ◌
 use Rattle.claim_model.specs.declared.refusal.Refusal.{Refusal}
 use Rattle.claim_model.specs.declared.refusal.Refusal.TheVariants.{NoSuchNode, Unreadable}
 use Rattle.claim_model.specs.Numbered.{numbered}
-use Rattle.claim_model.specs.Node.{Sent, Call, Submit, Tick, Take, Stop, Start, Reprice, Adjudicate, Outcome, Done, Refused}
+use Rattle.claim_model.specs.Node.{Sent, Call, Submit, Tick, Take, Stop, Start, Revise, Adjudicate, Outcome, Done, Refused}
 use Rattle.claim_model.specs.Refused.{RefusedAs}
 use Rattle.node_state.specs.Taking.{IsReadable}
 use Rattle.world_core.specs.Calling.{list_after, called_at, called}
@@ -56,5 +56,5 @@ called_readable step nodes n k node Tick e there h = tt
 called_readable step nodes n k node (Take from bytes) e there h = λ unreadable. h (called_refused step nodes n k node (Some Unreadable) e there unreadable)
 called_readable step nodes n k node Stop e there h = tt
 called_readable step nodes n k node Start e there h = tt
-called_readable step nodes n k node (Reprice change) e there h = tt
+called_readable step nodes n k node (Revise change) e there h = tt
 called_readable step nodes n k node (Adjudicate from bytes advice) e there h = tt

@@ -4,8 +4,8 @@ use Rattle.std.specs.Prelude.{◌≢◌, option_map}
 use Rattle.bin_routes.specs.Table.{RouteMaps}
 use Rattle.claim_model.specs.Context.{Context}
 use Rattle.claim_model.specs.declared.refusal.Refusal.TheVariants.{NoSuchPacket, Unreadable, NotAdvised}
-use Rattle.claim_model.specs.Node.{Node, Pharmacy, Switch, Payer, Call, Submit, Tick, Take, Stop, Start, Reprice, Adjudicate, Refused}
-use Rattle.claim_model.specs.World.{World, Packet, Event, Submission, Ticking, Delivery, Stopping, Starting, PlanChange, Adjudication, on_node, step}
+use Rattle.claim_model.specs.Node.{Node, Pharmacy, Switch, Payer, Call, Submit, Tick, Take, Stop, Start, Revise, Adjudicate, Refused}
+use Rattle.claim_model.specs.World.{World, Packet, Event, Submission, Ticking, Delivery, Stopping, Starting, Revising, Adjudication, on_node, step}
 use Rattle.claim_model.specs.Nodes.{Asked, adjudicating, asked, asked_step}
 use Rattle.claim_model.specs.Bytes.{bytes_with}
 use Rattle.claim_model.specs.Promises.{is_asking, MayMeetAt, DeliveriesMeet}
@@ -45,7 +45,7 @@ readable_packet ctx w (Ticking n) node from bytes meet e = let f : Take from byt
 readable_packet ctx w (Delivery k) node from bytes meet e = λ unreadable. no_unreadable (is_asking w (numbered w.packets k)) (meet k Unreadable (asks ctx w (Delivery k) (asking node (Take from bytes)) e ∙ unreadable))
 readable_packet ctx w (Stopping other) node from bytes meet e = let f : Take from bytes ≡ Stop = ap call_in e in absurd cc
 readable_packet ctx w (Starting other) node from bytes meet e = let f : Take from bytes ≡ Start = ap call_in e in absurd cc
-readable_packet ctx w (PlanChange n change) node from bytes meet e = let f : Take from bytes ≡ Reprice change = ap call_in e in absurd cc
+readable_packet ctx w (Revising n change) node from bytes meet e = let f : Take from bytes ≡ Revise change = ap call_in e in absurd cc
 readable_packet ctx w (Adjudication k advice) node from bytes meet e = takes_alone ctx w k advice node from bytes (numbered w.packets k) e
 
 readable_at : (routes : RouteMaps) (nodes : NodeLists) (packets : List Packet) (node from : Node) (bytes : List ℕ) → on_node (bytes_with routes) (world_of nodes packets) node (Take from bytes) ≢ Refused Unreadable → IsReadableAt routes nodes node (Take from bytes)
@@ -60,21 +60,21 @@ by_call routes nodes (Pharmacy n) Tick h = tt
 by_call routes nodes (Pharmacy n) (Take from bytes) h = h from bytes refl
 by_call routes nodes (Pharmacy n) Stop h = tt
 by_call routes nodes (Pharmacy n) Start h = tt
-by_call routes nodes (Pharmacy n) (Reprice change) h = tt
+by_call routes nodes (Pharmacy n) (Revise change) h = tt
 by_call routes nodes (Pharmacy n) (Adjudicate from bytes advice) h = tt
 by_call routes nodes (Switch n) (Submit text) h = tt
 by_call routes nodes (Switch n) Tick h = tt
 by_call routes nodes (Switch n) (Take from bytes) h = h from bytes refl
 by_call routes nodes (Switch n) Stop h = tt
 by_call routes nodes (Switch n) Start h = tt
-by_call routes nodes (Switch n) (Reprice change) h = tt
+by_call routes nodes (Switch n) (Revise change) h = tt
 by_call routes nodes (Switch n) (Adjudicate from bytes advice) h = tt
 by_call routes nodes (Payer n) (Submit text) h = tt
 by_call routes nodes (Payer n) Tick h = tt
 by_call routes nodes (Payer n) (Take from bytes) h = h from bytes refl
 by_call routes nodes (Payer n) Stop h = tt
 by_call routes nodes (Payer n) Start h = tt
-by_call routes nodes (Payer n) (Reprice change) h = tt
+by_call routes nodes (Payer n) (Revise change) h = tt
 by_call routes nodes (Payer n) (Adjudicate from bytes advice) h = tt
 
 -- the call that an event asks for, where deliveries meet few refusals

@@ -2,8 +2,8 @@
 use Rattle.std.specs.Prelude.{ℕ, List, Option, Some, None}
 use Rattle.claim_model.specs.Numbered.{numbered}
 use Rattle.claim_model.specs.Journal.{Journal, JournalAtRest}
-use Rattle.claim_model.specs.Node.{Power, Node, Pharmacy, Switch, Payer, Call, Submit, Tick, Take, Stop, Start, Reprice, Adjudicate}
-use Rattle.claim_model.specs.World.{Event, Submission, Ticking, Delivery, Stopping, Starting, PlanChange, Adjudication}
+use Rattle.claim_model.specs.Node.{Power, Node, Pharmacy, Switch, Payer, Call, Submit, Tick, Take, Stop, Start, Revise, Adjudicate}
+use Rattle.claim_model.specs.World.{Event, Submission, Ticking, Delivery, Stopping, Starting, Revising, Adjudication}
 use Rattle.node_state.specs.Sends.{most_due}
 use Rattle.world_core.specs.NodeLists.{NodeLists}
 
@@ -29,7 +29,7 @@ room_asked nodes node Tick = room_ticking nodes node
 room_asked nodes node (Take from bytes) = 1
 room_asked nodes node Stop = 1
 room_asked nodes node Start = 1
-room_asked nodes node (Reprice change) = 1
+room_asked nodes node (Revise change) = 1
 room_asked nodes node (Adjudicate from bytes advice) = 1
 
 -- in an event
@@ -39,5 +39,5 @@ room_for nodes (Ticking n) = room_due nodes.pharmacies n
 room_for nodes (Delivery k) = 1
 room_for nodes (Stopping node) = 1
 room_for nodes (Starting node) = 1
-room_for nodes (PlanChange n change) = 1
+room_for nodes (Revising n change) = 1
 room_for nodes (Adjudication k advice) = 1

@@ -91,6 +91,7 @@ impl Nodes {
             | Event::Start(_)
             | Event::Plan { .. }
             | Event::Terms { .. }
+            | Event::Retry { .. }
             | Event::Adjudicate { .. } => 1,
         }
     }

@@ -35,6 +35,19 @@ pub(crate) fn asked_by<'a>(
             let (fee, copay) = (*fee, *copay);
             Some((Node::Payer(*payer), Call::Terms { fee, copay }))
         }
+        Event::Retry {
+            pharmacy,
+            nodes,
+            again,
+            tries,
+        } => {
+            let call = Call::Retry {
+                nodes,
+                again: *again,
+                tries: *tries,
+            };
+            Some((Node::Pharmacy(*pharmacy), call))
+        }
         Event::Adjudicate { packet, advice } => adjudicated(packets, *packet, advice),
     }
 }

@@ -3,11 +3,10 @@
 ghost use Rattle.std.specs.Prelude.{◌≡◌, ◌<◌, ◌≤◌, length, map, IfOk, OnOk};
 ghost use Rattle.std.specs.List.{AllByRecursion};
 ghost use Rattle.claim_model.specs.Journal.{PharmacySettings as SettingsSeen};
-ghost use Rattle.claim_recovery.specs.Help.{IsTimely};
 ghost use Rattle.claim_model.specs.Limits.{most_pharmacies, most_payers};
 ghost use Rattle.claim_model.specs.Settings.{IsPharmacySettings, IsBookSettings, opening, pharmacies_from, switches_of, payers_from};
 ghost use Rattle.world_setup.specs.Seen.{settings_seen, payer_seen};
-ghost use Rattle.world_core.specs.Opening.{HasSwitches, HasSerial};
+ghost use Rattle.world_core.specs.Opening.{HasSwitches, OpensTimely, HasSerial};
 
 use crate::all_nodes::Nodes;
 use crate::parts::Parts;
@@ -26,7 +25,7 @@ impl Parts {
         requires nodes { AllByRecursion HasSwitches settings.pharmacies.items }
         ensures opened { IfOk result (λ p. p ≡ opening (settings_seen settings)) }
         ensures sized { OnOk result (AllByRecursion IsPharmacySettings settings.pharmacies.items) }
-        ensures timely { OnOk result (AllByRecursion IsTimely settings.pharmacies.items) }
+        ensures timely { OnOk result (AllByRecursion OpensTimely settings.pharmacies.items) }
         ensures serials { OnOk result (AllByRecursion HasSerial settings.payers.items) }
     {
         let WorldSettings {
@@ -58,7 +57,7 @@ fn open_pharmacies(
     requires nodes { AllByRecursion HasSwitches settings.items }
     ensures opened { IfOk result (λ nodes. nodes.items ≡ pharmacies_from 1 settings.items) }
     ensures sized { OnOk result (AllByRecursion IsPharmacySettings settings.items) }
-    ensures timely { OnOk result (AllByRecursion IsTimely settings.items) }
+    ensures timely { OnOk result (AllByRecursion OpensTimely settings.items) }
 {
     let mut nodes = Vec::new(alloc);
     for each in settings {

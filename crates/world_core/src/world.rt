@@ -2,18 +2,17 @@
 
 ghost use Rattle.std.specs.Prelude.{◌≡◌, ◌+◌, ◌<◌, ◌⊎◌, length, map, take, None, Some, IfOk, IfErr, OnOk, OnErr};
 ghost use Rattle.std.specs.Bool.{OnTrue, OnFalse};
-ghost use Rattle.bin_routes.specs.Table.{routes_of};
 ghost use Rattle.claim_model.specs.Settings.{opening};
 ghost use Rattle.claim_model.specs.World.{step, world_after, run};
 ghost use Rattle.world_setup.specs.Seen.{event_seen, settings_seen};
-ghost use Rattle.world_setup.specs.Taken.{world_fault};
+ghost use Rattle.world_setup.specs.Taken.{world_fault, routes_in};
 ghost use Rattle.world_setup.specs.declared.world_fault.WorldFault.TheVariants.{OutOfMemory};
 ghost use Rattle.node_state.specs.Outcomes.{Refuses};
 ghost use Rattle.world_core.specs.Parts.{context_of};
 ghost use Rattle.world_core.specs.Stepping.{next_of, outcome_in};
 
 use crate::parts::Parts;
-use bin_routes::Routes;
+use bin_routes::{Routes, number_laws};
 use claim_model::{bytes_keep_laws, deliveries_meet_few_refusals, routes_lead_to_payers};
 use std::alloc::{AllocError, Global};
 use std::marker::Model;
@@ -50,7 +49,7 @@ impl World {
     /// answer.
     pub fn new(alloc: Global, settings: WorldSettings) -> Result<World, WorldFault>
         ensures made { IfOk result (λ w. w ≡ record {
-          routes = routes_of settings.routes.items;
+          routes = routes_in settings;
           world = opening (settings_seen settings);
         }) }
         ensures taken { OnOk result (world_fault settings ≡ None) }
@@ -63,7 +62,7 @@ impl World {
     /// The opening world of settings that a world takes.
     pub fn opening(alloc: Global, settings: CheckedSettings) -> Result<World, AllocError>
         ensures { IfOk result (λ w. w ≡ record {
-          routes = routes_of settings.routes.items;
+          routes = routes_in settings;
           world = opening (settings_seen settings);
         }) }
     {
@@ -71,6 +70,7 @@ impl World {
         let parts = Parts::opening(alloc, settings)?;
         bytes_keep_laws();
         routes_lead_to_payers();
+        number_laws();
         Ok(World { routes, parts })
     }
 

@@ -5,6 +5,7 @@ use Rattle.claim_model.specs.Node as model
 use Rattle.claim_model.specs.World as world
 use Rattle.claim_model.specs.Settings as opened
 use Rattle.claim_model.specs.Words.{SetPrice, SetTerms}
+use Rattle.pharmacy_journal.specs.Ruling.{rule_in}
 use Rattle.world_setup.specs.declared.node.Node.{Node}
 use Rattle.world_setup.specs.declared.node.Node.TheVariants as node
 use Rattle.world_setup.specs.declared.call.Call.{Call}
@@ -29,8 +30,9 @@ call_as read call.Tick = model.Tick
 call_as read (call.Take from bytes) = model.Take (node_seen from) (read bytes)
 call_as read call.Stop = model.Stop
 call_as read call.Start = model.Start
-call_as read (call.Plan product price) = model.Reprice (SetPrice (read product) price)
-call_as read (call.Terms fee copay) = model.Reprice (SetTerms fee copay)
+call_as read (call.Plan product price) = model.Revise (model.OfPlan (SetPrice (read product) price))
+call_as read (call.Terms fee copay) = model.Revise (model.OfPlan (SetTerms fee copay))
+call_as read (call.Retry nodes again tries) = model.Revise (model.OfRule (rule_in (read nodes) again tries))
 call_as read (call.Adjudicate from bytes advice) = model.Adjudicate (node_seen from) (read bytes) (read advice)
 
 -- a call with texts of its own
@@ -56,8 +58,9 @@ event_seen (event.Tick pharmacy) = world.Ticking pharmacy
 event_seen (event.Deliver packet) = world.Delivery packet
 event_seen (event.Stop node) = world.Stopping (node_seen node)
 event_seen (event.Start node) = world.Starting (node_seen node)
-event_seen (event.Plan payer product price) = world.PlanChange payer (SetPrice product price)
-event_seen (event.Terms payer fee copay) = world.PlanChange payer (SetTerms fee copay)
+event_seen (event.Plan payer product price) = world.Revising (model.Payer payer) (model.OfPlan (SetPrice product price))
+event_seen (event.Terms payer fee copay) = world.Revising (model.Payer payer) (model.OfPlan (SetTerms fee copay))
+event_seen (event.Retry pharmacy nodes again tries) = world.Revising (model.Pharmacy pharmacy) (model.OfRule (rule_in nodes again tries))
 event_seen (event.Adjudicate packet advice) = world.Adjudication packet advice
 
 -- what a payer is opened with

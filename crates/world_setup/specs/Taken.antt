@@ -1,9 +1,10 @@
 -- Which settings a world takes, and why it does not take others.
-use Rattle.std.specs.Prelude.{◌≡◌, Bool, ◌||◌, not, nat_lt, Option, None, length}
+use Rattle.std.specs.Prelude.{◌≡◌, List, Bool, ◌||◌, not, nat_lt, Option, None, length}
 use Rattle.std.specs.List.{list_all}
 use Rattle.std.specs.Option.{option_or, option_map}
 use Rattle.bin_routes.specs.Fault.{first_fault}
-use Rattle.bin_routes.specs.Table.{RouteMaps, routes_of}
+use Rattle.bin_routes.specs.Row.{Row}
+use Rattle.bin_routes.specs.Table.{RouteMaps, routes_of, among}
 use Rattle.claim_model.specs.Limits.{most_pharmacies, most_switches, most_payers}
 use Rattle.claim_model.specs.Settings.{SettingsFault, settings_fault, is_empty, has_nodes}
 use Rattle.claim_model.specs.Settings as model
@@ -39,11 +40,19 @@ nodes_fault s = option_map named (settings_fault (settings_seen s))
 abbrev pub rows_fault : WorldSettings → Option WorldFault
 rows_fault s = option_map fault.BadRoute (first_fault (length s.payers.items) s.routes.items)
 
+-- the table of these rows, among the switches of a world
+unfoldable pub routes_with : model.WorldSettings → List Row → RouteMaps
+routes_with world rows = among (length world.switches) (routes_of rows)
+
+-- the table of settings
+abbrev pub routes_in : WorldSettings → RouteMaps
+routes_in s = routes_with (settings_seen s) s.routes.items
+
 -- nothing is wrong with the nodes and the rows of settings, and this is the table of their routes
 pub record IsTaken (s : WorldSettings) (routes : RouteMaps) : Type 0 where
   pub nodes : settings_fault (settings_seen s) ≡ None
   pub rows : first_fault (length s.payers.items) s.routes.items ≡ None
-  pub table : routes ≡ routes_of s.routes.items
+  pub table : routes ≡ routes_in s
 
 -- the first cause for which settings make no world: their nodes, and then the rows of routes
 abbrev pub world_fault : WorldSettings → Option WorldFault

@@ -39,6 +39,15 @@ pub enum Call<O = Octets> {
         /// What a patient pays, in cents.
         copay: u32,
     },
+    /// A pharmacy goes by another rule of retries.
+    Retry {
+        /// The numbers of the switches that it tries in turn, two bytes each, the higher first.
+        nodes: O,
+        /// After how many ticks an entry is sent again.
+        again: u32,
+        /// How often an entry is sent to one switch.
+        tries: u32,
+    },
     /// A payer that asks takes a packet with an advice.
     Adjudicate {
         /// Who sent the packet.
@@ -68,6 +77,15 @@ impl Call {
             Call::Terms { fee, copay } => Call::Terms {
                 fee: *fee,
                 copay: *copay,
+            },
+            Call::Retry {
+                nodes,
+                again,
+                tries,
+            } => Call::Retry {
+                nodes,
+                again: *again,
+                tries: *tries,
             },
             Call::Adjudicate {
                 from,

@@ -2,10 +2,9 @@
 
 ghost use Rattle.std.specs.Prelude.{◌≡◌, ◌⊎◌, length, None, Some, IfOk, IfErr, OnOk};
 ghost use Rattle.bin_routes.specs.Fault.{first_fault};
-ghost use Rattle.bin_routes.specs.Table.{routes_of};
 ghost use Rattle.claim_model.specs.Settings.{settings_fault};
 ghost use Rattle.world_setup.specs.Seen.{settings_seen};
-ghost use Rattle.world_setup.specs.Taken.{world_fault};
+ghost use Rattle.world_setup.specs.Taken.{world_fault, routes_in};
 ghost use Rattle.world_setup.specs.declared.world_fault.WorldFault.TheVariants.{OutOfMemory};
 
 use crate::settings::WorldSettings;
@@ -59,7 +58,7 @@ impl CheckedSettings {
 
     /// The table of their routes.
     pub fn routes(&self) -> &Routes
-        ensures { result.now ≡ routes_of self.now.routes.items }
+        ensures { result.now ≡ routes_in self.now }
     {
         &self.routes
     }
@@ -78,7 +77,7 @@ impl CheckedSettings {
     /// The settings, and the table of their routes.
     pub fn into_parts(self) -> (WorldSettings, Routes)
         ensures kept { result.0 ≡ self }
-        ensures routes { result.1 ≡ routes_of self.routes.items }
+        ensures routes { result.1 ≡ routes_in self }
         ensures nodes { settings_fault (settings_seen self) ≡ None }
         ensures rows { first_fault (length self.payers.items) self.routes.items ≡ None }
     {

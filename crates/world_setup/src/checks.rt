@@ -2,14 +2,14 @@
 
 ghost use Rattle.std.specs.Prelude.{◌≡◌, IfOk};
 ghost use Rattle.std.specs.List.{list_all};
-ghost use Rattle.claim_model.specs.Settings.{is_switch, has_nodes};
+ghost use Rattle.claim_model.specs.Settings.{has_nodes};
 ghost use Rattle.world_setup.specs.Taken.{too_many, lacks_node, nodes_fault};
 
 use crate::identity::some_provider_twice;
 use crate::settings::WorldSettings;
 use crate::world_fault::WorldFault;
 use claim_model::Limits;
-use pharmacy_journal::PharmacySettings;
+use pharmacy_journal::{PharmacySettings, have_switches};
 use std::alloc::{AllocError, Global};
 
 /// What is wrong with the nodes of settings.
@@ -62,24 +62,8 @@ fn have_nodes(pharmacies: &[PharmacySettings], switches: usize) -> bool
 }
 
 /// Whether a pharmacy has switches to send to, all of which are there.
-#[tactic(auto, using(crate::proofs::Checking::empty_by_length))]
 fn has_nodes(settings: &PharmacySettings, switches: usize) -> bool
     ensures { result ≡ has_nodes switches settings.now }
 {
-    let nodes = settings.nodes();
-    !nodes.is_empty() && are_switches(nodes, switches)
-}
-
-/// Whether there are switches of all these numbers.
-fn are_switches(nodes: &[u16], switches: usize) -> bool
-    ensures { result ≡ list_all (is_switch switches) nodes.now }
-{
-    nodes.iter().all(|node| is_switch(*node, switches))
-}
-
-/// Whether there is a switch of this number.
-fn is_switch(number: u16, switches: usize) -> bool
-    ensures { result ≡ is_switch switches number }
-{
-    number > 0 && number as usize <= switches
+    have_switches(settings.nodes(), switches)
 }

@@ -46,6 +46,17 @@ pub enum Event {
         /// What a patient pays, in cents.
         copay: u32,
     },
+    /// A pharmacy goes by another rule of retries.
+    Retry {
+        /// The pharmacy's number.
+        pharmacy: u16,
+        /// The numbers of the switches that it tries in turn, two bytes each, the higher first.
+        nodes: Octets,
+        /// After how many ticks an entry is sent again.
+        again: u32,
+        /// How often an entry is sent to one switch.
+        tries: u32,
+    },
     /// The packet of this number, from 1, reaches its addressee, a payer that asks, with an advice.
     Adjudicate {
         /// The packet's number.

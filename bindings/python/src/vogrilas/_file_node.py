@@ -8,7 +8,7 @@ import pathlib
 import stat
 import threading
 import warnings
-from typing import Callable, Optional, TypeVar, Union
+from typing import Callable, Optional, Sequence, TypeVar, Union
 
 from ._node import (
     Code,
@@ -98,6 +98,16 @@ class FileNode:
             if not isinstance(amount, int) or isinstance(amount, bool):
                 raise TypeError(f"an amount has to be an int, not {type(amount).__name__}")
         return self._call(_line(b"terms %d %d" % (fee, copay)))
+
+    def retry(self, switches: Sequence[int], again: int, tries: int) -> Said:
+        """Another rule of retries: the numbers of the switches that are tried in turn, after how many ticks an entry is sent again,
+        and how often to one switch. Of a pharmacy."""
+        numbers = [*switches, again, tries]
+        for number in numbers:
+            if not isinstance(number, int) or isinstance(number, bool):
+                raise TypeError(f"a number has to be an int, not {type(number).__name__}")
+        names = b",".join(b"sw%d" % number for number in numbers[:-2])
+        return self._call(_line(b"retry %s %d %d" % (names, again, tries)))
 
     def stop(self) -> Said:
         """The node stops: it refuses calls until it starts."""

@@ -51,6 +51,7 @@ impl Ages {
             Call::Start => Ok(()),
             Call::Plan { .. } => Ok(()),
             Call::Terms { .. } => Ok(()),
+            Call::Retry { .. } => Ok(()),
             Call::Adjudicate { .. } => Ok(()),
         }
     }

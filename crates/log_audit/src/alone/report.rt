@@ -3,7 +3,6 @@
 ghost use Rattle.std.specs.Prelude.{◌≡◌, [], cond, IfOk, OnOk};
 ghost use Rattle.std.specs.List.{list_all};
 ghost use Rattle.std.specs.Option.{option_copied};
-ghost use Rattle.bin_routes.specs.Table.{routes_of};
 ghost use Rattle.claim_model.specs.Bytes.{bytes_with};
 ghost use Rattle.node_log.specs.LogSeen.{log_seen, logs_seen};
 ghost use Rattle.log_audit.specs.ChangeTables.{log_changes_csv};
@@ -12,6 +11,7 @@ ghost use Rattle.log_audit.specs.AloneSeen.{lone_seen, lones_seen};
 ghost use Rattle.log_audit.specs.LoneTelling.{all_make, lone_lines, lones_of, lones_text, alone_text};
 ghost use Rattle.log_audit.specs.Outgoing.{Puts, TellsText};
 ghost use Rattle.log_audit.specs.Tables.{table_csv};
+ghost use Rattle.world_setup.specs.Taken.{routes_in};
 
 use crate::alone::lines::lines_of;
 use crate::alone::log::{Lone, lone_node};
@@ -75,7 +75,7 @@ fn lones_by<'a>(
     torn: &[usize],
     logs: &'a [NodeLog],
 ) -> Result<Vec<Lone<'a>>, AuditFault>
-    ensures { IfOk result (λ lones. lones_seen lones.items ≡ lones_from (bytes_with (routes_of settings.now.routes.items))
+    ensures { IfOk result (λ lones. lones_seen lones.items ≡ lones_from (bytes_with (routes_in settings.now))
         settings.now rests.now torn.now 0 (logs_seen logs.now)) }
 {
     let mut lones = Vec::new(alloc);
@@ -100,7 +100,7 @@ fn lone_of<'a>(
     torn: u64,
     log: &'a NodeLog,
 ) -> Result<Lone<'a>, AllocError>
-    ensures { IfOk result (λ lone. lone_seen lone ≡ lone_of (bytes_with (routes_of settings.now.routes.items))
+    ensures { IfOk result (λ lone. lone_seen lone ≡ lone_of (bytes_with (routes_in settings.now))
         settings.now (option_copied rest.entry) torn (log_seen log.now)) }
 {
     let before = calls_before(alloc, rest)?;

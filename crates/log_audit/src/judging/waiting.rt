@@ -130,6 +130,7 @@ fn waits(lines: &[Progress<'_>], node: Node, call: &Call) -> bool
         Call::Start => false,
         Call::Plan { .. } => false,
         Call::Terms { .. } => false,
+        Call::Retry { .. } => false,
     }
 }
 
@@ -222,6 +223,7 @@ fn put_reason(
         Call::Start => put_no_event(line),
         Call::Plan { .. } => put_no_event(line),
         Call::Terms { .. } => put_no_event(line),
+        Call::Retry { .. } => put_no_event(line),
     }
 }
 

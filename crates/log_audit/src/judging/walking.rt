@@ -103,7 +103,8 @@ fn taken_by(call: &Call) -> Option<(Node, &Octets)> {
         | Call::Stop
         | Call::Start
         | Call::Plan { .. }
-        | Call::Terms { .. } => None,
+        | Call::Terms { .. }
+        | Call::Retry { .. } => None,
     }
 }
 

@@ -2,7 +2,6 @@
 
 ghost use Rattle.std.specs.Prelude.{◌≡◌, map, None, IfOk, OnOk};
 ghost use Rattle.std.specs.Option.{option_map};
-ghost use Rattle.bin_routes.specs.Table.{routes_of};
 ghost use Rattle.claim_model.specs.Bytes.{bytes_with};
 ghost use Rattle.world_setup.specs.Seen.{node_seen, sent_seen, settings_seen};
 ghost use Rattle.node_log.specs.LogSeen.{log_seen, logs_seen};
@@ -11,6 +10,7 @@ ghost use Rattle.log_audit.specs.Adding.{AddsLine, AddsLines};
 ghost use Rattle.log_audit.specs.Sentences.{sentence, told_lines};
 ghost use Rattle.log_audit.specs.Wrongs.{Bytes as BytesWrong, common, packet_wrong, wrong_from, wrong_in, call_made, calls_made, first_wrong, call_pieces, wrong_pieces, wrong_line, line_of_wrong, log_wrongs, wrong_lines};
 ghost use Rattle.log_audit.specs.WrongsSeen.{wrong_seen, first_seen, made_as, ended_as};
+ghost use Rattle.world_setup.specs.Taken.{routes_in};
 
 use crate::sentences::{Manner, Piece, put_pieces, put_told};
 use bin_routes::Routes;
@@ -47,7 +47,7 @@ pub(crate) fn wrong_lines(
     logs: &[NodeLog],
 ) -> Result<Vec<u8>, AllocError>
     ensures { IfOk result (λ text. text.items ≡ told_lines manner
-        (wrong_lines (bytes_with (routes_of settings.now.routes.items)) (settings_seen settings.now) (logs_seen logs.now))) }
+        (wrong_lines (bytes_with (routes_in settings.now)) (settings_seen settings.now) (logs_seen logs.now))) }
 {
     let mut out = Vec::new(alloc);
     put_wrongs(&mut out, manner, settings, logs)?;
@@ -62,7 +62,7 @@ fn put_wrongs(
     logs: &[NodeLog],
 ) -> Result<(), AllocError>
     ensures { OnOk result (AddsLines manner out.old out.new
-        (wrong_lines (bytes_with (routes_of settings.now.routes.items)) (settings_seen settings.now) (logs_seen logs.now))) }
+        (wrong_lines (bytes_with (routes_in settings.now)) (settings_seen settings.now) (logs_seen logs.now))) }
 {
     for log in logs {
         put_log_wrongs(out, manner, settings, log)?;
@@ -78,7 +78,7 @@ fn put_log_wrongs(
     log: &NodeLog,
 ) -> Result<(), AllocError>
     ensures { OnOk result (AddsLines manner out.old out.new
-        (log_wrongs (bytes_with (routes_of settings.now.routes.items)) (settings_seen settings.now) (log_seen log.now))) }
+        (log_wrongs (bytes_with (routes_in settings.now)) (settings_seen settings.now) (log_seen log.now))) }
 {
     let found = first_wrong(*out.allocator(), settings, log)?;
     put_found(out, manner, log.node(), found)
@@ -196,7 +196,7 @@ fn first_wrong(
     log: &NodeLog,
 ) -> Result<Option<FirstWrong>, AllocError>
     ensures { IfOk result (λ found. option_map first_seen found
-        ≡ first_wrong (bytes_with (routes_of settings.now.routes.items)) (settings_seen settings.now) (log_seen log.now)) }
+        ≡ first_wrong (bytes_with (routes_in settings.now)) (settings_seen settings.now) (log_seen log.now)) }
 {
     if !is_there(settings.settings(), log.node()) {
         return Ok(None);

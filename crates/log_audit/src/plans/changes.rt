@@ -70,6 +70,7 @@ fn push_event<'a>(
         Event::Deliver { .. } => Ok(()),
         Event::Stop(_) => Ok(()),
         Event::Start(_) => Ok(()),
+        Event::Retry { .. } => Ok(()),
         Event::Adjudicate { .. } => Ok(()),
     }
 }
@@ -132,6 +133,7 @@ fn push_call<'a>(
             push_change(changes, payer, number, to)
         }
         Call::Submit(_) => Ok(()),
+        Call::Retry { .. } => Ok(()),
         Call::Tick => Ok(()),
         Call::Take { .. } => Ok(()),
         Call::Stop => Ok(()),

@@ -214,6 +214,7 @@ fn is_submission(call: &Call) -> bool
         | Call::Start
         | Call::Plan { .. }
         | Call::Terms { .. }
+        | Call::Retry { .. }
         | Call::Adjudicate { .. } => false,
     }
 }

@@ -1,7 +1,6 @@
 //! What a run left: as counts, as one table, or as all tables.
 
 ghost use Rattle.std.specs.Prelude.{◌≡◌, map, IfOk, OnOk};
-ghost use Rattle.bin_routes.specs.Table.{routes_of};
 ghost use Rattle.claim_model.specs.Settings.{opening};
 ghost use Rattle.world_setup.specs.Seen.{event_seen, settings_seen};
 ghost use Rattle.table_text.specs.Adding.{Adds};
@@ -9,6 +8,7 @@ ghost use Rattle.log_audit.specs.Judged.{IsLeft};
 ghost use Rattle.log_audit.specs.Tabled.{run_csv, tells_senders};
 ghost use Rattle.log_audit.specs.Telling.{run_ledger, run_members};
 ghost use Rattle.log_audit.specs.Outgoing.{Puts};
+ghost use Rattle.world_setup.specs.Taken.{routes_in};
 
 use crate::fault::AuditFault;
 use crate::judging::LegalRun;
@@ -126,7 +126,7 @@ pub(crate) fn put_left_tables<K: TextSink + Drop>(
 /// The opening world of these settings.
 fn opened(alloc: Global, settings: CheckedSettings) -> Result<World, AuditFault>
     ensures { IfOk result (λ w. w
-        ≡ record { routes = routes_of settings.routes.items; world = opening (settings_seen settings) }) }
+        ≡ record { routes = routes_in settings; world = opening (settings_seen settings) }) }
 {
     match World::opening(alloc, settings) {
         Ok(world) => Ok(world),

@@ -5,7 +5,7 @@ ghost use Rattle.world_setup.specs.Seen.{event_seen};
 ghost use Rattle.node_log.specs.LogSeen.{log_seen, logs_seen};
 ghost use Rattle.table_text.specs.Adding.{Adds, AddsRow, AddsRows};
 ghost use Rattle.table_text.specs.Rows.{list_text};
-ghost use Rattle.log_audit.specs.Telling.{log_row, log_rows, logs_member, count_member, run_object};
+ghost use Rattle.log_audit.specs.Telling.{log_row, log_rows, logs_member, count_member, run_members, run_object};
 ghost use Rattle.table_text.specs.declared.layout.Style.TheVariants.{Json};
 ghost use Rattle.log_audit.specs.Outgoing.{Puts};
 
@@ -32,9 +32,21 @@ pub(crate) fn put_run_object<K: TextSink + Drop>(
     ensures { OnOk result (Puts out.old out.new (run_object audited (map event_seen events.now))) }
 {
     put_front(out, &audited, events.len() as u64)?;
-    put_left_tables(alloc, out, settings_alone(audited), events)?;
+    put_members(alloc, out, audited, events)?;
     out.put(b"\n}\n")?;
     Ok(())
+}
+
+/// Puts the tables that the run left, as members.
+fn put_members<K: TextSink + Drop>(
+    alloc: Global,
+    out: &mut Outgoing<K>,
+    audited: Audited,
+    events: &[Event],
+) -> Result<(), AuditFault>
+    ensures { OnOk result (Puts out.old out.new (run_members audited.settings (map event_seen events.now))) }
+{
+    put_left_tables(alloc, out, settings_alone(audited), events)
 }
 
 /// Puts the beginning of an object of logs of a legal run: the list of logs, and of how many events it is.

@@ -76,7 +76,7 @@ impl Rests {
 /// A journal at rest of pharmacy 1, which takes this many entries.
 fn opened(alloc: Global, cap: u32) -> Option<JournalAtRest> {
     match pharmacy_settings(alloc, 1, 1, cap) {
-        Some(settings) => Some(JournalAtRest::new(alloc, 1, settings)),
+        Some(settings) => JournalAtRest::new(alloc, 1, settings).ok(),
         None => None,
     }
 }

@@ -132,6 +132,12 @@ impl Recorded {
                 price,
             } => plan(*payer, product, *price),
             Event::Terms { payer, fee, copay } => terms(*payer, *fee, *copay),
+            Event::Retry {
+                pharmacy,
+                nodes,
+                again,
+                tries,
+            } => retry(*pharmacy, nodes, *again, *tries),
             Event::Adjudicate { packet, advice } => self.adjudicating(*packet, advice),
         }
     }
@@ -210,6 +216,21 @@ fn plan(payer: u16, product: &Octets, price: Option<u32>) -> Option<Made> {
 /// A change of terms.
 fn terms(payer: u16, fee: u32, copay: u32) -> Option<Made> {
     call_on(Node::Payer(payer), Call::Terms { fee, copay })
+}
+
+/// Another rule of retries.
+fn retry(pharmacy: u16, nodes: &Octets, again: u32, tries: u32) -> Option<Made> {
+    match nodes.copy() {
+        Ok(nodes) => call_on(
+            Node::Pharmacy(pharmacy),
+            Call::Retry {
+                nodes,
+                again,
+                tries,
+            },
+        ),
+        Err(_) => None,
+    }
 }
 
 /// The taking of a packet by whom it is for.

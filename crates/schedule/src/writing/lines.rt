@@ -36,6 +36,12 @@ pub(super) fn put_event(out: &mut Vec<u8>, event: &Event) -> Result<(), AllocErr
             price,
         } => put_plan(out, *payer, product.as_slice(), *price)?,
         Event::Terms { payer, fee, copay } => put_terms(out, *payer, *fee, *copay)?,
+        Event::Retry {
+            pharmacy,
+            nodes,
+            again,
+            tries,
+        } => put_rule(out, *pharmacy, nodes.as_slice(), *again, *tries)?,
         Event::Adjudicate { packet, advice } => {
             put(out, b"adjudicate ")?;
             put_decimal(out, *packet)?;
@@ -79,6 +85,42 @@ fn put_terms(out: &mut Vec<u8>, payer: u16, fee: u32, copay: u32) -> Result<(), 
     put_decimal(out, u64::from(fee))?;
     put(out, b" ")?;
     put_decimal(out, u64::from(copay))
+}
+
+/// Appends a change of a rule of retries.
+fn put_rule(
+    out: &mut Vec<u8>,
+    pharmacy: u16,
+    nodes: &[u8],
+    again: u32,
+    tries: u32,
+) -> Result<(), AllocError> {
+    put(out, b"retry ")?;
+    put_node(out, Node::Pharmacy(pharmacy))?;
+    put(out, b" ")?;
+    put_switches(out, nodes)?;
+    put(out, b" ")?;
+    put_decimal(out, u64::from(again))?;
+    put(out, b" ")?;
+    put_decimal(out, u64::from(tries))
+}
+
+/// Appends the names of switches, joined by commas. A byte that is left over names none.
+fn put_switches(out: &mut Vec<u8>, nodes: &[u8]) -> Result<(), AllocError> {
+    let mut read = None;
+    for (place, byte) in nodes.iter().enumerate() {
+        match read {
+            None => read = Some(*byte),
+            Some(high) => {
+                if place > 1 {
+                    put(out, b",")?;
+                }
+                put_node(out, Node::Switch(u16::from_be_bytes([high, *byte])))?;
+                read = None;
+            }
+        }
+    }
+    Ok(())
 }
 
 /// Appends a product in printed bytes, a space as `\x20`.

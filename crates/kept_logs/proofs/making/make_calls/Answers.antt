@@ -1,7 +1,8 @@
-use Rattle.std.proofs.Common.{◌+◌, ◌-◌, length, arith}
+use Rattle.std.proofs.Common.{◌+◌, ◌-◌, length, refl, arith}
+use Rattle.world_setup.specs.Seen.{call_seen}
 use Rattle.claim_model.specs.Bytes.{bytes_with}
 use Rattle.kept_logs.specs.Digests.{version_seen}
-use Rattle.kept_logs.specs.LogSeen.{entry_seen}
+use Rattle.kept_logs.specs.LogSeen.{call_alone, entry_seen}
 use Rattle.kept_logs.proofs.Loops.{stepped}
 use Rattle.kept_logs.proofs.MadeSoFar.{all_made, cut_off_here, no_record_here, not_made_here, nothing_made, one_more_made}
 use Rattle.kept_logs.proofs.making.make_calls.Goals as goal
@@ -16,10 +17,10 @@ returns-in-Ok-None c =
 
 pub loop-place-preserved : goal.loop-place-preserved
 loop-place-preserved c =
-    one_more_made (bytes_with c.args.routes.now) c.args.opening (version_seen c.args.version) c.args.total c.args.bytes.now c.loop-place.node c.makes.new.node c.loop-place.references.items c.note_reference.new.references.items c.loop-place.place c.loop-place.rest.now c.in-Ok-Some.after.now
-    _ _ _ (entry_seen c.in-Ok-Some.entry) c.loop-place.invariant c.loop-place-test.true
+    one_more_made (bytes_with c.args.routes.now) c.args.opening (version_seen c.args.version) c.args.total c.args.bytes.now c.loop-place.node c.make_entry.new.node c.loop-place.references.items c.make_entry.new.references.items c.loop-place.place c.loop-place.rest.now c.in-Ok-Some.after.now
+    _ (call_alone c.in-Ok-Some.entry) (call_seen c.in-Ok-Some.entry.call) (entry_seen c.in-Ok-Some.entry) c.loop-place.invariant c.loop-place-test.true
     (stepped (version_seen c.args.version) _ (c.loop-place.place + 1) c.saturating_sub-start.result (c.args.total - length c.loop-place.rest.now) c.loop-place.rest.now c.in-Ok-Some.field-0 _ c.saturating_sub-start.ensures c.in-Ok-Some.ensures.ok c.in-Ok-Some.field-0-is)
-    c.new.ensures c.if-not-branch.false c.in_ok-makes.ensures c.call.ensures c.in_ok-note_reference.ensures
+    refl c.if-not-branch.false c.in_ok-make_entry-in-Ok-Some.ensures.made refl (c.in_ok-make_entry-in-Ok-Some.ensures.noted c.if-not-branch.false)
 
 pub returns : goal.returns
 returns c = all_made (bytes_with c.args.routes.now) c.args.opening (version_seen c.args.version) c.args.total c.args.bytes.now c.loop-place.node c.loop-place.references.items c.loop-place.place c.loop-place.rest.now c.loop-place.invariant (omega arith)
@@ -31,7 +32,7 @@ returns-in-Err c =
 
 pub returns-then-not-branch : goal.returns-then-not-branch
 returns-then-not-branch c =
-    not_made_here (bytes_with c.args.routes.now) c.args.opening (version_seen c.args.version) c.args.total c.args.bytes.now c.loop-place.node c.makes.new.node c.loop-place.references.items c.loop-place.place c.loop-place.rest.now c.in-Ok-Some.after.now
-    _ _ (entry_seen c.in-Ok-Some.entry) c.loop-place.invariant c.loop-place-test.true
+    not_made_here (bytes_with c.args.routes.now) c.args.opening (version_seen c.args.version) c.args.total c.args.bytes.now c.loop-place.node c.make_entry.new.node c.loop-place.references.items c.loop-place.place c.loop-place.rest.now c.in-Ok-Some.after.now
+    _ (call_alone c.in-Ok-Some.entry) (entry_seen c.in-Ok-Some.entry) c.loop-place.invariant c.loop-place-test.true
     (stepped (version_seen c.args.version) _ (c.loop-place.place + 1) c.saturating_sub-start.result (c.args.total - length c.loop-place.rest.now) c.loop-place.rest.now c.in-Ok-Some.field-0 _ c.saturating_sub-start.ensures c.in-Ok-Some.ensures.ok c.in-Ok-Some.field-0-is)
-    c.new.ensures c.if-not-branch.true c.in_ok-makes.ensures
+    refl c.if-not-branch.true c.in_ok-make_entry-in-Ok-Some.ensures.made

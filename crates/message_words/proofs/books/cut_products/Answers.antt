@@ -1,6 +1,6 @@
 use Rattle.std.proofs.Common.{◌-◌, ◌∙◌, refl, sym}
 use Rattle.message_words.specs.AtRest.{product_told}
-use Rattle.message_words.proofs.AtRest.{each_next, each_done, products_end}
+use Rattle.message_words.proofs.AtRest.{each_next, each_done, each_end, no_product}
 use Rattle.message_words.proofs.books.cut_products.Goals as goal
 
 pub loop-preserved : goal.loop-preserved
@@ -16,4 +16,4 @@ returns-clause-told c = λ carried behind. each_done product_told c.args.count c
 
 pub returns-then-is_empty-clause-told : goal.returns-then-is_empty-clause-told
 returns-then-is_empty-clause-told c = λ carried behind.
-    products_end (c.args.count - c.loop.counter) behind c.loop.cutter carried _ c.left.result.now c.left.ensures.left (sym c.is_empty.ensures ∙ c.if-is_empty.true) (c.loop.invariant.told carried behind)
+    each_end product_told no_product (c.args.count - c.loop.counter) behind c.loop.cutter carried _ c.left.result.now c.left.ensures.left (sym c.is_empty.ensures ∙ c.if-is_empty.true) (c.loop.invariant.told carried behind)

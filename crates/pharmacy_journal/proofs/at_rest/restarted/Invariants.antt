@@ -6,7 +6,7 @@ use Rattle.pharmacy_journal.proofs.at_rest.restarted.Given as goal
 
 abbrev pub invariant-loop-slot : goal.invariant-loop-slot
 invariant-loop-slot l = record {
-  timetable : l.timetable ≡ record { rule = rule_of l.settings; phases = map (restarted_phase (rule_of l.settings)) (take l.slot-index l.slots) };
-  phase : l.phase ≡ phases_of (rule_of l.settings) - l.settings.again;
-  on_circle : l.phase < phases_of (rule_of l.settings);
+  timetable : l.timetable ≡ record { rule = rule_of l.rule; phases = map (restarted_phase (rule_of l.rule)) (take l.slot-index l.slots) };
+  phase : l.phase ≡ phases_of (rule_of l.rule) - l.rule.again;
+  on_circle : l.phase < phases_of (rule_of l.rule);
 }

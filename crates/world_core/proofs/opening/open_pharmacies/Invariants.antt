@@ -2,8 +2,7 @@ use Rattle.std.proofs.Common.{◌≡◌, ◌≤◌, ◌<◌, ◌+◌, ◌++◌, 
 use Rattle.std.specs.List.{AllByRecursion}
 use Rattle.std.specs.Vec.Iter.{into_iter_items}
 use Rattle.claim_model.specs.Settings.{IsPharmacySettings, pharmacies_from}
-use Rattle.claim_recovery.specs.Help.{IsTimely}
-use Rattle.world_core.specs.Opening.{HasSwitches}
+use Rattle.world_core.specs.Opening.{HasSwitches, OpensTimely}
 use Rattle.world_core.proofs.opening.open_pharmacies.Given as goal
 
 abbrev pub invariant-loop-each : goal.invariant-loop-each
@@ -12,5 +11,5 @@ invariant-loop-each l = record {
   nodes_left : AllByRecursion HasSwitches (into_iter_items l.each-iterator);
   opened : l.nodes.items ++ pharmacies_from (length l.nodes.items + 1) (into_iter_items l.each-iterator) ≡ pharmacies_from 1 l.fn.settings.items;
   sized : AllByRecursion IsPharmacySettings (into_iter_items l.each-iterator) → AllByRecursion IsPharmacySettings l.fn.settings.items;
-  timely : AllByRecursion IsTimely (into_iter_items l.each-iterator) → AllByRecursion IsTimely l.fn.settings.items;
+  timely : AllByRecursion OpensTimely (into_iter_items l.each-iterator) → AllByRecursion OpensTimely l.fn.settings.items;
 }

@@ -16,10 +16,10 @@ loop-place-init g c =
     let ps = c.due_next-places.result.now in
     let entries : length p.slots.items ≡ length c.args.self.now.entries = sym (length-entries_of p.slots.items p.timetable.phases) ∙ ap (λ (j : Journal). length j.entries) c.self.view_is in
     let within = in_entries p.slots.items p.timetable.phases ps c.self.invariant.phases c.due_next-places.ensures.in_range in
-    let opened = packets_of_open p.number p.settings p.timetable p.slots.items ps c.self.invariant within in
-    let due = c.due_next-places.ensures.due ∙ due_next-places p.number p.settings p.timetable p.slots.items c.self.invariant in
+    let opened = packets_of_open p.number p.settings p.rule p.timetable p.slots.items ps c.self.invariant within in
+    let due = c.due_next-places.ensures.due ∙ due_next-places p.number p.settings p.rule p.timetable p.slots.items c.self.invariant in
     let all : flat_map (packet_at (ticked c.args.self.now)) ps ≡ due_packets (ticked c.args.self.now) =
-    rw (← c.self.view_is) (opened ∙ ap (flat_map (packet_at (ticked (Rattle.pharmacy_journal.proofs.Standing.seen p.number p.settings p.timetable p.slots.items)))) due) in
+    rw (← c.self.view_is) (opened ∙ ap (flat_map (packet_at (ticked (Rattle.pharmacy_journal.proofs.Standing.seen p.number p.settings p.rule p.timetable p.slots.items)))) due) in
     record {
       sent = ap (λ xs. map g.S.ForSwitch.seen xs ++ flat_map (sent_at (ticked c.args.self.now)) ps) c.in_ok-sent.ensures.items
           ∙ sent_at_places (ticked c.args.self.now) ps ∙ ap (map to_switch) all;

@@ -9,4 +9,4 @@ returns-clause-value c = rw (← c.self.view_is, length-entries_of c.self.inside
 pub returns-clause-made : goal.returns-clause-made
 returns-clause-made c =
     let p = c.self.inside in
-    rw (← c.self.view_is) (made_of p.number p.settings p.slots.items _ c.self.invariant.kept (stopped-seen p.number p.settings p.timetable p.slots.items))
+    rw (← c.self.view_is) (made_of p.number p.settings p.rule p.slots.items _ c.self.invariant.kept (stopped-seen p.number p.settings p.rule p.timetable p.slots.items))

@@ -11,5 +11,5 @@ pub returns : goal.returns
 returns c =
     let p = c.self.inside in
     let entries : map kept_of c.as_slice.result.now ≡ (stopped c.args.self.now).entries =
-    ap (map kept_of) c.as_slice.ensures.value ∙ ap (λ (j : JournalAtRest). j.entries) (stopped-seen p.number p.settings p.timetable p.slots.items) ∙ ap (λ (j : Journal). (stopped j).entries) c.self.view_is in
+    ap (map kept_of) c.as_slice.ensures.value ∙ ap (λ (j : JournalAtRest). j.entries) (stopped-seen p.number p.settings p.rule p.timetable p.slots.items) ∙ ap (λ (j : Journal). (stopped j).entries) c.self.view_is in
     subst (λ (ks : List Kept). MatchOption c.entry_at.result (numbered ks c.args.number ≡ None) (λ e. numbered ks c.args.number ≡ Some (record { request = e.request.now; answer = option_copied e.answer }))) entries c.entry_at.ensures

@@ -11,5 +11,5 @@ unfolding listed
 returns c =
     let p = c.self.inside in
     let entries : map kept_of c.as_slice.result.now ≡ (stopped c.args.self.now).entries =
-    ap (map kept_of) c.as_slice.ensures.value ∙ ap (λ (j : JournalAtRest). j.entries) (stopped-seen p.number p.settings p.timetable p.slots.items) ∙ ap (λ (j : Journal). (stopped j).entries) c.self.view_is in
+    ap (map kept_of) c.as_slice.ensures.value ∙ ap (λ (j : JournalAtRest). j.entries) (stopped-seen p.number p.settings p.rule p.timetable p.slots.items) ∙ ap (λ (j : Journal). (stopped j).entries) c.self.view_is in
     IfOk-weaker c.list_of.result _ _ (λ views e. e ∙ ap (λ (ks : List Kept). listed_from 1 ks) entries) c.list_of.ensures

@@ -11,5 +11,5 @@ pub returns : goal.returns
 returns c = λ routes.
     let p = c.self.inside in
     let entries : map kept_of c.as_slice.result.now ≡ (stopped c.args.self.now).entries =
-    ap (map kept_of) c.as_slice.ensures.value ∙ ap (λ (j : JournalAtRest). j.entries) (stopped-seen p.number p.settings p.timetable p.slots.items) ∙ ap (λ (j : Journal). (stopped j).entries) c.self.view_is in
+    ap (map kept_of) c.as_slice.ensures.value ∙ ap (λ (j : JournalAtRest). j.entries) (stopped-seen p.number p.settings p.rule p.timetable p.slots.items) ∙ ap (λ (j : Journal). (stopped j).entries) c.self.view_is in
     IfOk-weaker c.paid_in.result _ _ (λ paid e. e ∙ ap (λ (ks : List Kept). counted_in (outcomes ks)) entries ∙ counted_is routes (stopped c.args.self.now)) c.paid_in.ensures

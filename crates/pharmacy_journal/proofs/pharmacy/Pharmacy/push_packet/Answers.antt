@@ -22,7 +22,7 @@ returns-in_default g c =
     let p = c.self.inside in
     let within = rw (← c.self.view_is, length-entries_of p.slots.items p.timetable.phases) at c.requires in
     let slot = exists_at p.slots.items c.args.place within in
-    let none = packet_at-none p.number p.settings p.timetable p.slots.items c.args.place slot.0 c.self.invariant slot.1 c.in_default.ensures.value in
+    let none = packet_at-none p.number p.settings p.rule p.timetable p.slots.items c.args.place slot.0 c.self.invariant slot.1 c.in_default.ensures.value in
     rw (← c.self.view_is) (sym (ap (λ (ps : List Sending). map g.S.ForSwitch.seen c.args.sent.now.items ++ map to_switch ps) none ∙ append-nil (map g.S.ForSwitch.seen c.args.sent.now.items)))
 
 pub returns-in_ok-push : goal.returns-in_ok-push
@@ -31,9 +31,9 @@ returns-in_ok-push g c =
     let within = rw (← c.self.view_is, length-entries_of p.slots.items p.timetable.phases) at c.requires in
     let is = slice_get_read p.slots.items _ c.args.place c.index.result.now refl within c.index.ensures in
     let open_is = is ∙ ap (λ s. Rattle.std.proofs.Common.Some s) c.in-Waiting.is in
-    let packet = packet_at-open p.number p.settings p.timetable p.slots.items c.args.place c.in-Waiting.txn c.in-Some.node c.self.invariant open_is c.in-Some.ensures.value in
-    let made : g.S.ForSwitch.seen c.for_switch.result ≡ to_switch (record { switch = slice_index p.settings.nodes c.in-Some.node; bytes = envelope_text Request c.in-Waiting.txn.id c.in-Waiting.txn.request }) =
-    c.for_switch.ensures ∙ ap (λ (ns : List ℕ). to_switch (record { switch = slice_index ns c.in-Some.node; bytes = c.in_ok-packet.packet })) c.nodes.ensures.value ∙ ap (λ (b : List ℕ). to_switch (record { switch = slice_index p.settings.nodes c.in-Some.node; bytes = b })) c.in_ok-packet.ensures in
+    let packet = packet_at-open p.number p.settings p.rule p.timetable p.slots.items c.args.place c.in-Waiting.txn c.in-Some.node c.self.invariant open_is c.in-Some.ensures.value in
+    let made : g.S.ForSwitch.seen c.for_switch.result ≡ to_switch (record { switch = slice_index p.rule.nodes c.in-Some.node; bytes = envelope_text Request c.in-Waiting.txn.id c.in-Waiting.txn.request }) =
+    c.for_switch.ensures ∙ ap (λ (ns : List ℕ). to_switch (record { switch = slice_index ns c.in-Some.node; bytes = c.in_ok-packet.packet })) c.nodes.ensures.value ∙ ap (λ (b : List ℕ). to_switch (record { switch = slice_index p.rule.nodes c.in-Some.node; bytes = b })) c.in_ok-packet.ensures in
     let old = map g.S.ForSwitch.seen c.args.sent.now.items in
     rw (← c.self.view_is)
     (ap (map g.S.ForSwitch.seen) c.in_ok-push.ensures.items
@@ -46,5 +46,5 @@ returns-in_default-index g c =
     let p = c.self.inside in
     let within = rw (← c.self.view_is, length-entries_of p.slots.items p.timetable.phases) at c.requires in
     let is = slice_get_read p.slots.items _ c.args.place c.index.result.now refl within c.index.ensures in
-    let settled = packet_at-settled p.number p.settings p.timetable p.slots.items c.args.place c.index.result.now c.self.invariant is (rw c.in_default-index.is refl) in
+    let settled = packet_at-settled p.number p.settings p.rule p.timetable p.slots.items c.args.place c.index.result.now c.self.invariant is (rw c.in_default-index.is refl) in
     rw (← c.self.view_is) (sym (ap (λ (ps : List Sending). map g.S.ForSwitch.seen c.args.sent.now.items ++ map to_switch ps) settled ∙ append-nil (map g.S.ForSwitch.seen c.args.sent.now.items)))

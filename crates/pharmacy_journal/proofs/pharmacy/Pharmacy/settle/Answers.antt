@@ -39,7 +39,7 @@ returns-in_err-verdict-clause-fault c = λ routes.
     let within : c.in-Some.place < length j.slots.items = omega (arith, c.in-Some.ensures.0.0, c.in-Some.ensures.0.1, c.in-Some.ensures.1, c.len.ensures) in
     let slot = slice_get_read j.slots.items _ c.in-Some.place c.index.result.now refl within c.index.ensures in
     rw (← c.self.view_is, p.1, p.2)
-    (hear_refused routes j.number j.settings j.timetable j.slots.items (envelope_seen c.args.envelope.now) c.in-Some.place c.index.result.now _ c.self.invariant
+    (hear_refused routes j.number j.settings j.rule j.timetable j.slots.items (envelope_seen c.args.envelope.now) c.in-Some.place c.index.result.now _ c.self.invariant
     (omega (arith, id, c.pharmacy.ensures.value, c.if-pharmacy-self.false)) (omega (arith, own, c.number.ensures.value, c.in-Some.ensures.0.0)) (omega (arith, own, c.number.ensures.value, c.in-Some.ensures.1)) slot c.in_err-verdict.ensures.fault)
 
 pub verdict-requires : goal.verdict-requires
@@ -52,7 +52,7 @@ verdict-requires c =
     let within : c.in-Some.place < length j.slots.items = omega (arith, c.in-Some.ensures.0.0, c.in-Some.ensures.0.1, c.in-Some.ensures.1, c.len.ensures) in
     let slot = slice_get_read j.slots.items _ c.in-Some.place c.index.result.now refl within c.index.ensures in
     OnTrue_from c.args.known (answers c.index.result.now c.args.envelope.now ≡ true)
-    (λ known. hear_known routes j.number j.settings j.timetable j.slots.items e c.in-Some.place c.index.result.now c.self.invariant
+    (λ known. hear_known routes j.number j.settings j.rule j.timetable j.slots.items e c.in-Some.place c.index.result.now c.self.invariant
     (omega (arith, id, c.pharmacy.ensures.value, c.if-pharmacy-self.false)) (omega (arith, own, c.number.ensures.value, c.in-Some.ensures.0.0)) (omega (arith, own, c.number.ensures.value, c.in-Some.ensures.1)) slot
     (subst (λ (w : Journal). heard (bytes_with routes) w e ≢ Err Unreadable) (sym c.self.view_is) (OnTrue_at known c.requires.readable routes)))
 
@@ -70,7 +70,7 @@ invariant_of-self c =
     let within : c.in-Some.place < length j.slots.items = omega (arith, c.in-Some.ensures.0.0, c.in-Some.ensures.0.1, c.in-Some.ensures.1, c.len.ensures) in
     let slot = slice_get_read j.slots.items _ c.in-Some.place c.index.result.now refl within c.index.ensures in
     let same : c.in_ok-answer.answer ≡ c.args.envelope.now.payload = c.in_ok-answer.ensures.value in
-    IsUp-settled j.number j.settings j.timetable c.settle.new.self j.slots.items c.settle_at.new.slots.items c.in-Some.place c.index.result.now c.in_ok-answer.answer c.self.invariant c.settle.ensures c.settle_at.ensures slot
+    IsUp-settled j.number j.settings j.rule j.timetable c.settle.new.self j.slots.items c.settle_at.new.slots.items c.in-Some.place c.index.result.now c.in_ok-answer.answer c.self.invariant c.settle.ensures c.settle_at.ensures slot
     (subst (λ (a : List ℕ). IsAnsweredBy c.index.result.now a) (sym same) c.in_ok-verdict.ensures.open) c.in_ok-answer.ensures.short
 
 pub returns-clause-ok : goal.returns-clause-ok
@@ -82,6 +82,6 @@ returns-clause-ok c = λ routes.
     let slot = slice_get_read j.slots.items _ c.in-Some.place c.index.result.now refl within c.index.ensures in
     let same : c.in_ok-answer.answer ≡ c.args.envelope.now.payload = c.in_ok-answer.ensures.value in
     rw (← c.self.view_is)
-    (hear_settles routes j.number j.settings j.timetable c.settle.new.self j.slots.items c.settle_at.new.slots.items (envelope_seen c.args.envelope.now) c.in-Some.place c.index.result.now c.in_ok-answer.answer c.self.invariant
+    (hear_settles routes j.number j.settings j.rule j.timetable c.settle.new.self j.slots.items c.settle_at.new.slots.items (envelope_seen c.args.envelope.now) c.in-Some.place c.index.result.now c.in_ok-answer.answer c.self.invariant
     (omega (arith, id, c.pharmacy.ensures.value, c.if-pharmacy-self.false)) (omega (arith, own, c.number.ensures.value, c.in-Some.ensures.0.0)) (omega (arith, own, c.number.ensures.value, c.in-Some.ensures.1)) slot
     c.settle.ensures c.settle_at.ensures (subst (λ (a : List ℕ). IsAnsweredBy c.index.result.now a) (sym same) c.in_ok-verdict.ensures.open) same c.in_ok-verdict.ensures.ok)

@@ -10,17 +10,17 @@ use Rattle.pharmacy_journal.proofs.Standing.{IsUp-ticked, seen-ticked}
 use Rattle.pharmacy_journal.proofs.pharmacy.Pharmacy.tick_as.Goals as goal
 
 pub invariant_of-self : goal.invariant_of-self
-invariant_of-self g c = let p = c.self.inside in IsUp-ticked p.number p.settings p.timetable c.tick.new.self p.slots.items c.self.invariant c.tick.ensures
+invariant_of-self g c = let p = c.self.inside in IsUp-ticked p.number p.settings p.rule p.timetable c.tick.new.self p.slots.items c.self.invariant c.tick.ensures
 
 pub returns-clause-ok : goal.returns-clause-ok
-returns-clause-ok g c = let p = c.self.inside in rw (← c.self.view_is, c.tick.ensures) (seen-ticked p.number p.settings p.timetable p.slots.items c.self.invariant)
+returns-clause-ok g c = let p = c.self.inside in rw (← c.self.view_is, c.tick.ensures) (seen-ticked p.number p.settings p.rule p.timetable p.slots.items c.self.invariant)
 
 pub returns-clause-sent : goal.returns-clause-sent
 returns-clause-sent g c = λ routes.
     let p = c.self.inside in
     rw c.tick.ensures
     (c.in_ok-sent.ensures
-    ∙ ap (map to_switch) (sym (due_is routes (ticked c.args.self.now)) ∙ ap (λ (j : Journal). due (bytes_with routes) (ticked j)) (sym c.self.view_is) ∙ ap (due (bytes_with routes)) (sym (seen-ticked p.number p.settings p.timetable p.slots.items c.self.invariant))))
+    ∙ ap (map to_switch) (sym (due_is routes (ticked c.args.self.now)) ∙ ap (λ (j : Journal). due (bytes_with routes) (ticked j)) (sym c.self.view_is) ∙ ap (due (bytes_with routes)) (sym (seen-ticked p.number p.settings p.rule p.timetable p.slots.items c.self.invariant))))
 
 pub returns-clause-few : goal.returns-clause-few
 returns-clause-few g c =

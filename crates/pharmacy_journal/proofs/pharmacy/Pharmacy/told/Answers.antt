@@ -13,12 +13,12 @@ unfolding listed
 returns-clause-entries c =
     let p = c.self.inside in
     let entries : map kept_of c.as_slice.result.now ≡ (stopped c.args.self.now).entries =
-    ap (map kept_of) c.as_slice.ensures.value ∙ ap (λ (j : JournalAtRest). j.entries) (stopped-seen p.number p.settings p.timetable p.slots.items) ∙ ap (λ (j : Journal). (stopped j).entries) c.self.view_is in
+    ap (map kept_of) c.as_slice.ensures.value ∙ ap (λ (j : JournalAtRest). j.entries) (stopped-seen p.number p.settings p.rule p.timetable p.slots.items) ∙ ap (λ (j : Journal). (stopped j).entries) c.self.view_is in
     IfOk-weaker c.told_by.result _ _ (λ told e. e ∙ ap (λ (ks : List Kept). listed_from 1 ks) entries) c.told_by.ensures.entries
 
 pub returns-clause-paid : goal.returns-clause-paid
 returns-clause-paid c = λ routes.
     let p = c.self.inside in
     let entries : map kept_of c.as_slice.result.now ≡ (stopped c.args.self.now).entries =
-    ap (map kept_of) c.as_slice.ensures.value ∙ ap (λ (j : JournalAtRest). j.entries) (stopped-seen p.number p.settings p.timetable p.slots.items) ∙ ap (λ (j : Journal). (stopped j).entries) c.self.view_is in
+    ap (map kept_of) c.as_slice.ensures.value ∙ ap (λ (j : JournalAtRest). j.entries) (stopped-seen p.number p.settings p.rule p.timetable p.slots.items) ∙ ap (λ (j : Journal). (stopped j).entries) c.self.view_is in
     IfOk-weaker c.told_by.result _ _ (λ told e. e ∙ ap (λ (ks : List Kept). counted_in (outcomes ks)) entries ∙ counted_is routes (stopped c.args.self.now)) c.told_by.ensures.paid

@@ -27,4 +27,4 @@ invariant_of-result c =
     let kept = c.into_parts-settings.ensures.kept in
     let routes = c.into_parts-settings.result.1 in
     subst (λ (w : World). IsReached routes w) (sym (rw kept at c.in_ok-parts.ensures.opened))
-    (opened c.args.settings routes c.into_parts-settings.ensures.routes c.into_parts-settings.ensures.nodes c.into_parts-settings.ensures.rows (rw kept at c.in_ok-parts.ensures.sized) (rw kept at c.in_ok-parts.ensures.serials) (rw kept at c.in_ok-parts.ensures.timely) c.bytes_keep_laws.ensures c.routes_lead_to_payers.ensures)
+    (opened c.args.settings routes c.into_parts-settings.ensures.routes c.into_parts-settings.ensures.nodes c.into_parts-settings.ensures.rows (rw kept at c.in_ok-parts.ensures.sized) (rw kept at c.in_ok-parts.ensures.serials) (rw kept at c.in_ok-parts.ensures.timely) c.bytes_keep_laws.ensures c.routes_lead_to_payers.ensures c.number_laws.ensures.among)
