@@ -511,6 +511,12 @@ class Trials(unittest.TestCase):
         for wrong in (("",), ("x" * 41,), ("x\x1cANP",), ("\N{EURO SIGN}",), ("x",) * 26):
             with self.assertRaises(ValueError):
                 Answer((Ruling("rejected", codes=("79",), messages=wrong),)).to(REQUEST)
+        before = Answer((Ruling("rejected", codes=("79",)),), "CALL 800 555 1234")
+        text = f"{front}R\x1cFA1\x1cFB79".replace("\x1d", "\x1e\x1cAM20\x1cF4CALL 800 555 1234\x1d").encode()
+        self.assertEqual((before.to(REQUEST), Answer.read(text)), (text, before))
+        for wrong in ("x" * 201, "x\x1cF4y", "\N{EURO SIGN}"):
+            with self.assertRaises(ValueError):
+                Answer(before.rulings, wrong).to(REQUEST)
         with self.assertRaises(ValueError):
             Answer((Ruling("paid", *paid, again=True),)).to(REQUEST)
 

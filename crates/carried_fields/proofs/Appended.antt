@@ -1,12 +1,13 @@
 -- Texts that grow by one field, segment or group at a time.
-use Rattle.std.proofs.Common.{◌≡◌, ℕ, not, List, [], ◌∷◌, ◌++◌, refl, sym, ap, ◌∙◌, append_assoc}
-use Rattle.std.proofs.lemmas.List.{append-nil}
+use Rattle.std.proofs.Common.{◌≡◌, ℕ, ◌+◌, true, cond, not, List, [], ◌∷◌, ◌++◌, drop, refl, sym, ap, ◌∙◌, append_assoc}
+use Rattle.std.proofs.lemmas.List.{append-nil, drop-drop}
 use Rattle.std.proofs.lemmas.List.Elements.{filter-append}
 use Rattle.d0_segments.specs.Parts.{FieldParts, SegmentParts}
-use Rattle.d0_segments.specs.Texts.{fields_text, segment_text, segments_text}
+use Rattle.d0_segments.specs.Texts.{field_text, fields_text, segment_text, segments_text}
 use Rattle.claim_profile.specs.Fields.{fields_of}
 use Rattle.claim_profile.proofs.Counting.{fields_of-none, fields_of-append}
 use Rattle.claim_profile.proofs.AnswerTexts.{fields_text-append}
+use Rattle.carried_fields.specs.Occurrences.{is_code, behind_codes_in, first_occurrence, beside}
 use Rattle.carried_fields.specs.Merging.{is_own, further_fields, merged_segment, merged_segments, further_segments, merged}
 
 segments_text-append : (ss us : List SegmentParts) → segments_text (ss ++ us) ≡ segments_text ss ++ segments_text us
@@ -56,11 +57,30 @@ merged_written before own said =
     append_assoc before (segments_text (merged_segments said own)) (segments_text (further_segments own said))
     ∙ ap (λ (t : List ℕ). before ++ t) (sym (segments_text-append (merged_segments said own) (further_segments own said)))
 
--- a segment in two parts
+-- a segment in three parts
 pub segment_written : (before : List ℕ) (s : SegmentParts) (said : List SegmentParts)
-    → (before ++ segment_text s) ++ fields_text (further_fields s.id (fields_of s.id said)) ≡ before ++ segment_text (merged_segment said s)
+    → ((before ++ (30 ∷ 28 ∷ 65 ∷ 77 ∷ s.id)) ++ fields_text (beside (behind_codes_in s.id said) s.fields)) ++ fields_text (further_fields s.id (fields_of s.id said)) ≡ before ++ segment_text (merged_segment said s)
 segment_written before s said =
     let head = 30 ∷ 28 ∷ 65 ∷ 77 ∷ s.id in
+    let own = beside (behind_codes_in s.id said) s.fields in
     let further = further_fields s.id (fields_of s.id said) in
-    append_assoc before (segment_text s) (fields_text further)
-    ∙ ap (λ (t : List ℕ). before ++ t) (append_assoc head (fields_text s.fields) (fields_text further) ∙ ap (λ (t : List ℕ). head ++ t) (sym (fields_text-append s.fields further)))
+    append_assoc (before ++ head) (fields_text own) (fields_text further)
+    ∙ append_assoc before head (fields_text own ++ fields_text further)
+    ∙ ap (λ (t : List ℕ). before ++ (head ++ t)) (sym (fields_text-append own further))
+
+-- ---- a book's fields, and where its codes occur
+
+-- one code more, behind this many others
+pub next_code : (before : List ℕ) (told : List (List FieldParts)) (others : ℕ) (fs later : List FieldParts) (f : FieldParts) (whole : List ℕ) → fs ≡ f ∷ later → is_code f ≡ true
+    → before ++ fields_text (beside (drop others told) fs) ≡ whole
+    → ((before ++ field_text f) ++ fields_text (first_occurrence (drop others told))) ++ fields_text (beside (drop (others + 1) told) later) ≡ whole
+next_code before told others fs later f whole is code so_far =
+    let told_here = drop others told in
+    let first = first_occurrence told_here in
+    append_assoc (before ++ field_text f) (fields_text first) (fields_text (beside (drop (others + 1) told) later))
+    ∙ append_assoc before (field_text f) (fields_text first ++ fields_text (beside (drop (others + 1) told) later))
+    ∙ ap (λ (ts : List (List FieldParts)). before ++ (field_text f ++ (fields_text first ++ fields_text (beside ts later)))) (sym (drop-drop 1 others told))
+    ∙ ap (λ (t : List ℕ). before ++ (field_text f ++ t)) (sym (fields_text-append first (beside (drop 1 told_here) later)))
+    ∙ ap (λ b. before ++ (field_text f ++ fields_text (cond b (first ++ beside (drop 1 told_here) later) (beside told_here later)))) (sym code)
+    ∙ ap (λ xs. before ++ fields_text (beside told_here xs)) (sym is)
+    ∙ so_far

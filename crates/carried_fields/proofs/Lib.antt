@@ -1,9 +1,12 @@
 pub mod WellFramed
+pub mod Beside
 pub mod Further
 pub mod SameRulings
 pub mod MergedAgain
 pub mod MergedFramed
 pub mod OwnFramed
 pub mod CarriedTexts
+pub mod CodesFound
 pub mod Appended
 pub mod Counted
+pub mod RepeatedPlaces

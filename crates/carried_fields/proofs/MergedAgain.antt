@@ -1,6 +1,6 @@
 -- A group that carries, merged into the book's own again, is that group.
 use Rattle.std.proofs.Common.{◌≡◌, ℕ, Bool, true, false, cond, eqb, not, List, [], ◌∷◌, ◌++◌, map, filter, length, codes, refl, sym, ap, ◌∙◌, eq-eqb}
-use Rattle.std.specs.List.{list_all}
+use Rattle.std.specs.List.{list_all, flat_map}
 use Rattle.std.proofs.lemmas.List.{append-nil}
 use Rattle.std.proofs.lemmas.List.Elements.{filter-append}
 use Rattle.std.proofs.lemmas.Slice.Eq.{bytes_eq-Decides}
@@ -8,15 +8,18 @@ use Rattle.d0_segments.specs.Parts.{FieldParts, SegmentParts}
 use Rattle.claim_profile.specs.declared.reject.Code.{Code}
 use Rattle.claim_profile.specs.declared.ruling.Ruling.{Ruling}
 use Rattle.claim_profile.specs.declared.ruling.Ruling.TheVariants.{Paid, Duplicate, Reversed, Rejected}
+use Rattle.claim_profile.specs.Authorization.{Authorization}
 use Rattle.claim_profile.specs.Money.{Money}
 use Rattle.claim_profile.specs.Fields.{fields_of}
 use Rattle.claim_profile.specs.Reject.{code_text}
 use Rattle.claim_profile.specs.Answer.{segment, status_segment, claim_segment, pricing_segment, code_field, reject_segment, ruling_segments, ruling_groups}
 use Rattle.claim_profile.specs.Unnamed.{unnamed}
-use Rattle.claim_profile.proofs.Counting.{fields_of-none, fields_of-append}
+use Rattle.claim_profile.proofs.Counting.{fields_of-none}
 use Rattle.carried_fields.specs.Agreeing.{same_money, same_texts, agrees, agreed}
+use Rattle.carried_fields.specs.Occurrences.{is_occurrence, behind_codes, behind_codes_in, beside}
 use Rattle.carried_fields.specs.Merging.{further_fields, merged_segment, merged_segments, has_segment, further_segments, merged, carried_group, carried_groups}
-use Rattle.carried_fields.proofs.Further.{others_none}
+use Rattle.carried_fields.proofs.Beside.{beside_nothing, beside_again, beside_own, further_begin}
+use Rattle.carried_fields.proofs.Further.{identified, merged_here}
 
 -- what passed a test passes it again
 filter_next : {A : Type 0} (test : A → Bool) (x : A) (xs : List A) (b : Bool) → test x ≡ b → filter test xs ≡ xs → filter test (cond b (x ∷ xs) xs) ≡ cond b (x ∷ xs) xs
@@ -35,12 +38,36 @@ further_added id a fields none =
     ∙ ap (λ fs. fs ++ further_fields id (further_fields id fields)) none
     ∙ filter_again (λ (f : FieldParts). not (Rattle.carried_fields.specs.Merging.is_own id f.id)) fields
 
-further_of : (id : List ℕ) (own said : List SegmentParts) (a : List FieldParts) → fields_of id (merged_segments said own) ≡ a ++ further_fields id (fields_of id said) → further_fields id a ≡ [] → has_segment own id ≡ true
-    → further_fields id (fields_of id (merged own said)) ≡ further_fields id (fields_of id said)
-further_of id own said a is none has =
-    ap (further_fields id) (fields_of-append id (merged_segments said own) (further_segments own said)
-    ∙ (λ i. is i ++ others_none id own said has i))
-    ∙ further_added id a (fields_of id said) none
+-- a segment of a book that merges what carries into itself is that which merged the advice
+segment_again : (id : List ℕ) (a : List FieldParts) (own said : List SegmentParts) → has_segment own id ≡ true → identified id (merged_segments said own) ≡ merged_segment said (segment id a) ∷ []
+    → beside (behind_codes (merged_segment said (segment id a)).fields) a ≡ beside (behind_codes_in id said) a → further_fields id (beside (behind_codes_in id said) a) ≡ []
+    → merged_segment (merged own said) (segment id a) ≡ merged_segment said (segment id a)
+unfolding fields_of
+segment_again id a own said has one again none =
+    let carries = merged_segment said (segment id a) in
+    let here : identified id (merged own said) ≡ carries ∷ [] = merged_here id own said has ∙ one in
+    let codes = ap (λ ss. beside (flat_map (λ (s : SegmentParts). behind_codes s.fields) ss) a) here ∙ ap (λ told. beside told a) (append-nil (behind_codes carries.fields)) ∙ again in
+    let further = ap (λ ss. further_fields id (flat_map (λ (s : SegmentParts). s.fields) ss)) here ∙ further_added id (beside (behind_codes_in id said) a) (fields_of id said) none in
+    λ i. segment id (codes i ++ further i)
+
+-- a response status segment, in which no code says where it occurs
+status_again : (a : List FieldParts) (own said : List SegmentParts) → has_segment own (codes "21") ≡ true
+    → identified (codes "21") (merged_segments said own) ≡ merged_segment said (segment (codes "21") a) ∷ [] → further_fields (codes "21") a ≡ [] → filter is_occurrence a ≡ []
+    → merged_segment (merged own said) (segment (codes "21") a) ≡ merged_segment said (segment (codes "21") a)
+status_again a own said has one none silent =
+    let told = behind_codes_in (codes "21") said in
+    segment_again (codes "21") a own said has one
+    (beside_again told a (further_fields (codes "21") (fields_of (codes "21") said)) silent (further_begin (fields_of (codes "21") said)))
+    (beside_own told a none)
+
+-- a segment without a code
+codeless_again : (id : List ℕ) (a : List FieldParts) (own said : List SegmentParts) → has_segment own id ≡ true → identified id (merged_segments said own) ≡ merged_segment said (segment id a) ∷ []
+    → further_fields id a ≡ [] → ((told : List (List FieldParts)) → beside told a ≡ a) → merged_segment (merged own said) (segment id a) ≡ merged_segment said (segment id a)
+codeless_again id a own said has one none codeless =
+    let told = behind_codes_in id said in
+    segment_again id a own said has one
+    (codeless (behind_codes (merged_segment said (segment id a)).fields) ∙ sym (codeless told))
+    (ap (further_fields id) (codeless told) ∙ none)
 
 abbrev three : (a b c : List FieldParts) → List SegmentParts
 three a b c = segment (codes "21") a ∷ segment (codes "22") b ∷ segment (codes "23") c ∷ []
@@ -50,30 +77,6 @@ two a b = segment (codes "21") a ∷ segment (codes "22") b ∷ []
 
 abbrev one : (a : List FieldParts) → List SegmentParts
 one a = segment (codes "21") a ∷ []
-
-three_first : (a b c : List FieldParts) (said : List SegmentParts) → fields_of (codes "21") (merged_segments said (three a b c)) ≡ a ++ further_fields (codes "21") (fields_of (codes "21") said)
-unfolding fields_of
-three_first a b c said = append-nil (a ++ further_fields (codes "21") (fields_of (codes "21") said))
-
-three_second : (a b c : List FieldParts) (said : List SegmentParts) → fields_of (codes "22") (merged_segments said (three a b c)) ≡ b ++ further_fields (codes "22") (fields_of (codes "22") said)
-unfolding fields_of
-three_second a b c said = append-nil (b ++ further_fields (codes "22") (fields_of (codes "22") said))
-
-three_third : (a b c : List FieldParts) (said : List SegmentParts) → fields_of (codes "23") (merged_segments said (three a b c)) ≡ c ++ further_fields (codes "23") (fields_of (codes "23") said)
-unfolding fields_of
-three_third a b c said = append-nil (c ++ further_fields (codes "23") (fields_of (codes "23") said))
-
-two_first : (a b : List FieldParts) (said : List SegmentParts) → fields_of (codes "21") (merged_segments said (two a b)) ≡ a ++ further_fields (codes "21") (fields_of (codes "21") said)
-unfolding fields_of
-two_first a b said = append-nil (a ++ further_fields (codes "21") (fields_of (codes "21") said))
-
-two_second : (a b : List FieldParts) (said : List SegmentParts) → fields_of (codes "22") (merged_segments said (two a b)) ≡ b ++ further_fields (codes "22") (fields_of (codes "22") said)
-unfolding fields_of
-two_second a b said = append-nil (b ++ further_fields (codes "22") (fields_of (codes "22") said))
-
-one_first : (a : List FieldParts) (said : List SegmentParts) → fields_of (codes "21") (merged_segments said (one a)) ≡ a ++ further_fields (codes "21") (fields_of (codes "21") said)
-unfolding fields_of
-one_first a said = append-nil (a ++ further_fields (codes "21") (fields_of (codes "21") said))
 
 -- the segments of the book alone are no further ones
 three_others : (a b c : List FieldParts) (said : List SegmentParts) → further_segments (three a b c) (merged (three a b c) said) ≡ further_segments (three a b c) said
@@ -85,46 +88,79 @@ two_others a b said = filter_again (λ (s : SegmentParts). not (has_segment (two
 one_others : (a : List FieldParts) (said : List SegmentParts) → further_segments (one a) (merged (one a) said) ≡ further_segments (one a) said
 one_others a said = filter_again (λ (s : SegmentParts). not (has_segment (one a) s.id)) said
 
-three_again : (a b c : List FieldParts) (said : List SegmentParts) → further_fields (codes "21") a ≡ [] → further_fields (codes "22") b ≡ [] → further_fields (codes "23") c ≡ []
-    → merged (three a b c) (merged (three a b c) said) ≡ merged (three a b c) said
-three_again a b c said none1 none2 none3 =
+-- fields without a code, none of which is a further one
+record IsCodeless (id : List ℕ) (a : List FieldParts) : Type 0 where
+  pub own : further_fields id a ≡ []
+  pub codeless : (told : List (List FieldParts)) → beside told a ≡ a
+
+-- fields of a response status segment that a book wrote
+record IsStatus (a : List FieldParts) : Type 0 where
+  pub own : further_fields (codes "21") a ≡ []
+  pub silent : filter is_occurrence a ≡ []
+
+three_again : (a b c : List FieldParts) (said : List SegmentParts) → IsStatus a → IsCodeless (codes "22") b → IsCodeless (codes "23") c → merged (three a b c) (merged (three a b c) said) ≡ merged (three a b c) said
+three_again a b c said status claim pricing =
     let own = three a b c in
-    let first = further_of (codes "21") own said a (three_first a b c said) none1 refl in
-    let second = further_of (codes "22") own said b (three_second a b c said) none2 refl in
-    let third = further_of (codes "23") own said c (three_third a b c said) none3 refl in
+    let first = status_again a own said refl refl status.own status.silent in
+    let second = codeless_again (codes "22") b own said refl refl claim.own claim.codeless in
+    let third = codeless_again (codes "23") c own said refl refl pricing.own pricing.codeless in
     let others = three_others a b c said in
-    λ i. segment (codes "21") (a ++ first i) ∷ segment (codes "22") (b ++ second i) ∷ segment (codes "23") (c ++ third i) ∷ others i
+    λ i. first i ∷ second i ∷ third i ∷ others i
 
-two_again : (a b : List FieldParts) (said : List SegmentParts) → further_fields (codes "21") a ≡ [] → further_fields (codes "22") b ≡ [] → merged (two a b) (merged (two a b) said) ≡ merged (two a b) said
-two_again a b said none1 none2 =
+two_again : (a b : List FieldParts) (said : List SegmentParts) → IsStatus a → IsCodeless (codes "22") b → merged (two a b) (merged (two a b) said) ≡ merged (two a b) said
+two_again a b said status claim =
     let own = two a b in
-    let first = further_of (codes "21") own said a (two_first a b said) none1 refl in
-    let second = further_of (codes "22") own said b (two_second a b said) none2 refl in
+    let first = status_again a own said refl refl status.own status.silent in
+    let second = codeless_again (codes "22") b own said refl refl claim.own claim.codeless in
     let others = two_others a b said in
-    λ i. segment (codes "21") (a ++ first i) ∷ segment (codes "22") (b ++ second i) ∷ others i
+    λ i. first i ∷ second i ∷ others i
 
-one_again : (a : List FieldParts) (said : List SegmentParts) → further_fields (codes "21") a ≡ [] → merged (one a) (merged (one a) said) ≡ merged (one a) said
-one_again a said none1 =
-    let first = further_of (codes "21") (one a) said a (one_first a said) none1 refl in
+one_again : (a : List FieldParts) (said : List SegmentParts) → IsStatus a → merged (one a) (merged (one a) said) ≡ merged (one a) said
+one_again a said status =
+    let first = status_again a (one a) said refl refl status.own status.silent in
     let others = one_others a said in
-    λ i. segment (codes "21") (a ++ first i) ∷ others i
+    λ i. first i ∷ others i
 
 -- ---- the groups of rulings
 
-no_codes : (rejects : List Code) → further_fields (codes "21") (map code_field rejects) ≡ []
-no_codes [] = refl
-no_codes (code ∷ rejects) = no_codes rejects
+codes_own : (rejects : List Code) → further_fields (codes "21") (map code_field rejects) ≡ []
+codes_own [] = refl
+codes_own (code ∷ rejects) = codes_own rejects
+
+codes_silent : (rejects : List Code) → filter is_occurrence (map code_field rejects) ≡ []
+codes_silent [] = refl
+codes_silent (code ∷ rejects) = codes_silent rejects
+
+status_fields : (status : List ℕ) (auth : Authorization) → IsStatus (status_segment status auth).fields
+unfolding status_segment
+status_fields status auth = record { own = refl; silent = refl }
+
+claim_fields : (prescription : ℕ) → IsCodeless (codes "22") (claim_segment prescription).fields
+unfolding claim_segment
+claim_fields prescription = record { own = refl; codeless = λ told. refl }
+
+pricing_fields : (m : Money) → IsCodeless (codes "23") (pricing_segment m).fields
+unfolding pricing_segment
+pricing_fields m = record { own = refl; codeless = λ told. refl }
+
+reject_fields : (rejects : List Code) → IsStatus (reject_segment rejects).fields
+unfolding reject_segment
+reject_fields rejects = record { own = codes_own rejects; silent = codes_silent rejects }
 
 merged_again : (r : Ruling) (said : List SegmentParts) → merged (ruling_segments r) (merged (ruling_segments r) said) ≡ merged (ruling_segments r) said
 unfolding status_segment claim_segment pricing_segment reject_segment
-merged_again (Paid auth prescription m) said = three_again (status_segment (codes "P") auth).fields (claim_segment prescription).fields (pricing_segment m).fields said refl refl refl
-merged_again (Duplicate auth prescription m) said = three_again (status_segment (codes "D") auth).fields (claim_segment prescription).fields (pricing_segment m).fields said refl refl refl
-merged_again (Reversed auth prescription) said = two_again (status_segment (codes "A") auth).fields (claim_segment prescription).fields said refl refl
-merged_again (Rejected rejects) said = one_again (reject_segment rejects).fields said (no_codes rejects)
+merged_again (Paid auth prescription m) said =
+    three_again (status_segment (codes "P") auth).fields (claim_segment prescription).fields (pricing_segment m).fields said (status_fields (codes "P") auth) (claim_fields prescription) (pricing_fields m)
+merged_again (Duplicate auth prescription m) said =
+    three_again (status_segment (codes "D") auth).fields (claim_segment prescription).fields (pricing_segment m).fields said (status_fields (codes "D") auth) (claim_fields prescription) (pricing_fields m)
+merged_again (Reversed auth prescription) said = two_again (status_segment (codes "A") auth).fields (claim_segment prescription).fields said (status_fields (codes "A") auth) (claim_fields prescription)
+merged_again (Rejected rejects) said = one_again (reject_segment rejects).fields said (reject_fields rejects)
 
 -- nothing is added where nothing is said
 nothing_added : (s : SegmentParts) → merged_segment [] s ≡ s
-nothing_added s = λ i. record { id = s.id; fields = (ap (λ fs. s.fields ++ further_fields s.id fs) (fields_of-none s.id) ∙ append-nil s.fields) i }
+nothing_added s =
+    let further = ap (λ fs. s.fields ++ further_fields s.id fs) (fields_of-none s.id) ∙ append-nil s.fields in
+    λ i. record { id = s.id; fields = (ap (λ fs. fs ++ further_fields s.id (fields_of s.id [])) (beside_nothing s.fields) ∙ further) i }
 
 none_added : (own : List SegmentParts) → merged_segments [] own ≡ own
 none_added [] = refl

@@ -20,8 +20,8 @@ use Rattle.claim_profile.specs.Ruling.{◌>>=◌, or_fault, ruling_in, rulings_i
 use Rattle.claim_profile.specs.RulingSeen.{status_seen, authorization_seen, codes_counted, some_codes, ruled_under, ruled_seen, rejection_with, or_rejection}
 use Rattle.claim_profile.proofs.AnswerCounting.{all_answer_counted, is_all_answer_counted}
 use Rattle.claim_profile.proofs.RulingLemmas.{ruling_is}
-use Rattle.carried_fields.specs.Merging.{is_own, has_segment, merged, carried_group, carried_groups}
-use Rattle.carried_fields.proofs.Further.{own_values}
+use Rattle.carried_fields.specs.Merging.{has_segment, merged, carried_group, carried_groups}
+use Rattle.carried_fields.proofs.Further.{is_read, own_values}
 
 -- ---- what is known of the fields that a ruling is read from
 
@@ -40,7 +40,7 @@ ruling_as : (by : _) (h : Response) (group : List SegmentParts) → or_rejection
 ruling_as by h group = ruling_is by h group (known group) (sym (is_all_answer_counted group))
 
 -- what is known of one field of a group that carries
-tally_same : (reading : List ℕ → List ℕ) (id name : List ℕ) (own said : List SegmentParts) → is_own id name ≡ true → has_segment own id ≡ true
+tally_same : (reading : List ℕ → List ℕ) (id name : List ℕ) (own said : List SegmentParts) → is_read id name ≡ true → has_segment own id ≡ true
     → tallied Absent (values reading name (fields_of id (merged own said))) ≡ tallied Absent (values reading name (fields_of id own))
 tally_same reading id name own said is has = ap (tallied Absent) (own_values reading id name own said is has)
 

@@ -2,9 +2,10 @@
 use Rattle.std.specs.Prelude.{ℕ, Bool, false, not, ◌||◌, List, [], ◌∷◌, ◌++◌, map, filter, bytes_eq, codes, if◌then◌else◌}
 use Rattle.d0_segments.specs.Parts.{FieldParts, SegmentParts}
 use Rattle.claim_profile.specs.Fields.{fields_of}
+use Rattle.carried_fields.specs.Occurrences.{behind_codes_in, beside}
 
--- whether the field of this name is a book's own: status, authorization number and reject codes (AM21), to which belongs where each of these occurs;
--- prescription number (AM22); amounts (AM23)
+-- whether the field of this name is a book's own: status, authorization number and reject codes (AM21), with where each of these occurs, which is carried
+-- behind its code alone; prescription number (AM22); amounts (AM23)
 abbrev pub is_own : (id name : List ℕ) → Bool
 is_own id name =
     if bytes_eq id (codes "21") then bytes_eq name (codes "AN") || bytes_eq name (codes "F3") || bytes_eq name (codes "FA") || bytes_eq name (codes "FB") || bytes_eq name (codes "4F")
@@ -16,9 +17,9 @@ is_own id name =
 abbrev pub further_fields : List ℕ → List FieldParts → List FieldParts
 further_fields id fields = filter (λ f. not (is_own id f.id)) fields
 
--- a book's segment, and after its fields the further ones of the segments of its identification
+-- a book's segment, behind each of its codes where that occurs, and after its fields the further ones of the segments of its identification
 abbrev pub merged_segment : (said : List SegmentParts) → SegmentParts → SegmentParts
-merged_segment said s = record { id = s.id; fields = s.fields ++ further_fields s.id (fields_of s.id said) }
+merged_segment said s = record { id = s.id; fields = beside (behind_codes_in s.id said) s.fields ++ further_fields s.id (fields_of s.id said) }
 
 abbrev pub merged_segments : (said own : List SegmentParts) → List SegmentParts
 merged_segments said own = map (merged_segment said) own

@@ -23,8 +23,8 @@ use d0_segments::{Cursor, Framed, check_response};
 use std::alloc::{AllocError, Global};
 
 /// Writes the answer to a request, as [`write_answer`] does, with what an advice says beside its rulings: in each place
-/// where it rules the same, its fields that a book does not write itself and its other segments; in front of all groups, where
-/// it rules the same in every place, its segments there.
+/// where it rules the same, where each code occurs, its fields that a book does not write itself and its other segments; in
+/// front of all groups, where it rules the same in every place, its segments there.
 ///
 /// Where the bytes are no advice or have another number of groups, and where the answer would have more than 32,768 bytes,
 /// it is the plain answer.

@@ -82,7 +82,7 @@ fn put_unless_own(text: &mut Vec<u8>, id: [u8; 2], field: &Field<'_>) -> Result<
 }
 
 /// Appends a field: its separator, its identifier and its value.
-fn put_field(text: &mut Vec<u8>, field: &Field<'_>) -> Result<(), AllocError>
+pub fn put_field(text: &mut Vec<u8>, field: &Field<'_>) -> Result<(), AllocError>
     ensures { OnOk result (text.new.items ≡ text.old.items ++ field_text (field_parts field.now)) }
 {
     text.push(FIELD_SEPARATOR)?;

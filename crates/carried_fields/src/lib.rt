@@ -8,7 +8,10 @@ mod fields;
 mod laws;
 mod merging;
 mod names;
+mod occurrences;
+mod repeating;
 mod segments;
 
 pub use carrying::write_carrying;
 pub use laws::carrying_laws;
+pub use repeating::{Repeated, write_repeating};

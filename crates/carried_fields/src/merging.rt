@@ -9,7 +9,8 @@ ghost use Rattle.carried_fields.specs.Merging.{merged_segment, merged_segments, 
 
 use crate::agreeing::agrees;
 use crate::fields::put_further_fields;
-use crate::segments::{put_further_segments, put_segment, put_segments};
+use crate::occurrences::put_own_fields;
+use crate::segments::{put_further_segments, put_name, put_segments};
 use claim_profile::Ruling;
 use d0_header::ResponseHeader;
 use d0_segments::{Cursor, Framed, GROUP_SEPARATOR, SegmentAt};
@@ -75,7 +76,8 @@ fn put_own_segments(text: &mut Vec<u8>, own: Cursor<'_>, said: Cursor<'_>) -> Re
     Ok(())
 }
 
-/// Appends a segment of a book's group, and after its fields the further ones of the advice's segments of its identification.
+/// Appends a segment of a book's group, behind each of its codes where that occurs, and after its fields the further ones of
+/// the advice's segments of its identification.
 fn put_merged_segment(
     text: &mut Vec<u8>,
     segment: &SegmentAt<'_>,
@@ -84,6 +86,7 @@ fn put_merged_segment(
     ensures { OnOk result (text.new.items ≡ text.old.items
         ++ segment_text (merged_segment (shared_of said.entry.bytes.now) (segment_at segment.now))) }
 {
-    put_segment(text, segment)?;
+    put_name(text, segment.id())?;
+    put_own_fields(text, segment.id(), segment.fields(), said)?;
     put_further_fields(text, segment.id(), said)
 }

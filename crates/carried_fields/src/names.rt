@@ -1,8 +1,12 @@
-//! Names of fields that a book writes itself.
+//! Names of fields: those that a book writes itself, a reject code, and where it occurs.
 
 ghost use Rattle.std.specs.Prelude.{◌≡◌};
 ghost use Rattle.std.specs.Str.{bytes_eq};
+ghost use Rattle.d0_segments.specs.Views.{field_parts};
+ghost use Rattle.carried_fields.specs.Occurrences.{is_code, is_occurrence};
 ghost use Rattle.carried_fields.specs.Merging.{is_own};
+
+use d0_segments::Field;
 
 /// Whether two names are the same.
 #[inline(always)]
@@ -33,4 +37,18 @@ pub fn is_own(id: [u8; 2], name: [u8; 2]) -> bool
             || is_same(name, *b"F9");
     }
     false
+}
+
+/// Whether a field is a reject code: 511-FB that has a value.
+pub fn is_code(field: &Field<'_>) -> bool
+    ensures { result ≡ is_code (field_parts field.now) }
+{
+    is_same(field.id(), *b"FB") && !field.value().is_empty()
+}
+
+/// Whether a field tells where a code occurs: 546-4F.
+pub fn is_occurrence(field: &Field<'_>) -> bool
+    ensures { result ≡ is_occurrence (field_parts field.now) }
+{
+    is_same(field.id(), *b"4F")
 }

@@ -1,7 +1,7 @@
 //! Appending the segments of framed bytes.
 
-ghost use Rattle.std.specs.Prelude.{◌≡◌, [], ◌∷◌, ◌++◌, OnOk};
-ghost use Rattle.d0_segments.specs.Texts.{segment_text, segments_text};
+ghost use Rattle.std.specs.Prelude.{◌≡◌, [], ◌∷◌, ◌++◌, codes, OnOk};
+ghost use Rattle.d0_segments.specs.Texts.{field_text, segment_text, segments_text};
 ghost use Rattle.d0_segments.specs.Pieces.{shared_of};
 ghost use Rattle.d0_segments.specs.Cursors.{segment_at};
 ghost use Rattle.carried_fields.specs.Merging.{has_segment, further_segments};
@@ -70,10 +70,17 @@ fn has_segment(group: Cursor<'_>, id: [u8; 2]) -> bool
 }
 
 /// Appends a segment: its separator, the field `AM`, and its further fields.
-pub fn put_segment(text: &mut Vec<u8>, segment: &SegmentAt<'_>) -> Result<(), AllocError>
+fn put_segment(text: &mut Vec<u8>, segment: &SegmentAt<'_>) -> Result<(), AllocError>
     ensures { OnOk result (text.new.items ≡ text.old.items ++ segment_text (segment_at segment.now)) }
 {
-    text.extend_from_slice(&[SEGMENT_SEPARATOR, FIELD_SEPARATOR, b'A', b'M'])?;
-    text.extend_from_slice(&segment.id())?;
+    put_name(text, segment.id())?;
     put_fields(text, segment.fields())
+}
+
+/// Appends a segment's separator and the field `AM`.
+pub fn put_name(text: &mut Vec<u8>, id: [u8; 2]) -> Result<(), AllocError>
+    ensures { OnOk result (text.new.items ≡ text.old.items ++ (30 ∷ field_text (record { id = codes "AM"; value = id }))) }
+{
+    text.extend_from_slice(&[SEGMENT_SEPARATOR, FIELD_SEPARATOR, b'A', b'M'])?;
+    text.extend_from_slice(&id)
 }

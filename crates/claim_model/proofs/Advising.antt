@@ -9,7 +9,7 @@ use Rattle.claim_model.specs.Numbered.{numbered}
 use Rattle.claim_model.specs.Ruled.{Ruled, ruled}
 use Rattle.claim_model.specs.Rows.{Row, Book, ruled_rows}
 use Rattle.claim_model.specs.Judgement.{Judged, Unpriced, ToPrice, ToReverse, judged, Verdict, verdict_in, planned, verdict_of, next_auth, priced, Consent, Allows, consent_in, consent_of, taken_back, ruling_of, ruling, rulings_from, is_advised, all_advised}
-use Rattle.claim_model.specs.Book.{row_of, row_with, new_row, has_verdicts, unadvised, Answered, entered_row, answered_by, answered_readable, answered}
+use Rattle.claim_model.specs.Book.{row_of, to_carry, row_with, new_row, has_verdicts, unadvised, Answered, entered_row, answered_by, answered_readable, answered}
 use Rattle.claim_model.specs.Advised.{AsAdvised, AllAsAdvised, EntersAdvised}
 use Rattle.claim_model.proofs.PayerStep.{Rows, Known, New, answered_ruled}
 use Rattle.claim_model.proofs.Deliverable.{unasked_advised}
@@ -93,8 +93,8 @@ row_alike ctx b advice id request e =
     ∙ by_asks b.settings.asks (rulings_from ctx b unadvised (ruled_rows ctx b.rows) id 1 (ctx.orders request)) e
   where
     by_asks : (t : Bool) (rulings : List Ruling) → t ≡ false
-        → ◌≡◌ {A = Row} (record { id = id; request = request; rulings = rulings; carried = cond (t && b.settings.carries) (ctx.carried request rulings advice.text) [] })
-        (record { id = id; request = request; rulings = rulings; carried = cond (t && b.settings.carries) (ctx.carried request rulings unadvised.text) [] })
+        → ◌≡◌ {A = Row} (record { id = id; request = request; rulings = rulings; carried = cond (t && b.settings.carries) (ctx.carried request rulings (to_carry ctx b advice request rulings)) [] })
+        (record { id = id; request = request; rulings = rulings; carried = cond (t && b.settings.carries) (ctx.carried request rulings (to_carry ctx b unadvised request rulings)) [] })
     by_asks true rulings h = absurd (Rattle.std.proofs.lemmas.Bool.true≢false h)
     by_asks false rulings h = refl
 

@@ -214,6 +214,13 @@ carried_along : bytes_of (answered small (carrying true) says_more (id 1 1) c1) 
 unfolding replies one step answered readable transaction_code ruling judged submitted ticked due requested responded heard stopped started counted held refusals_by pharmacy
 carried_along = refl
 
+-- and in the answer to a duplicate, which nobody advised
+repeated_along : bytes_of (answered small (book_next (carrying true) (answered small (carrying true) says_more (id 1 1) c1)) unadvised (id 1 2) c1)
+    ∷ bytes_of (answered small (book_next (carrying false) (answered small (carrying false) says_more (id 1 1) c1)) unadvised (id 1 2) c1) ∷ []
+    ≡ (7 ∷ 1 ∷ 65 ∷ 2 ∷ 1 ∷ 1 ∷ 123456 ∷ 9 ∷ 5 ∷ 6 ∷ 7 ∷ []) ∷ (7 ∷ 1 ∷ 65 ∷ 2 ∷ 1 ∷ 1 ∷ 123456 ∷ []) ∷ []
+unfolding replies one step answered readable transaction_code ruling judged submitted ticked due requested responded heard stopped started counted held refusals_by pharmacy
+repeated_along = refl
+
 -- in a full book a known number with its request is answered again, and no new one
 full_book : told_by (answered small (book_next (book 1 1) (answered small (book 1 1) unadvised (id 1 1) c1)) unadvised (id 1 1) c1) ≡ Ok (Paid auth_1 123456 all_amounts ∷ [])
 unfolding replies one step answered readable transaction_code ruling judged submitted ticked due requested responded heard stopped started counted held refusals_by pharmacy

@@ -5,6 +5,7 @@ use Rattle.claim_profile.specs.Reject.{code_text}
 use Rattle.claim_profile.specs.Ruling.{code_of}
 use Rattle.envelope.specs.declared.opening.EnvelopeFault.TheVariants.{Short}
 use Rattle.claim_model.specs.Words.{Amounts, Order, Bills, Reverses, Code, Ruling, Paid, Duplicate, Reversed, Rejected, RequestHeader, Status, AcceptedStatus, RejectedStatus, Answer, Kind, Request, Response, Envelope, EnvelopeFault}
+use Rattle.carried_fields.specs.Repeating.{Repeated}
 use Rattle.claim_model.specs.Context.{Context}
 use Rattle.claim_model.specs.Readable.{version_d0, billing_code, reversal_code}
 
@@ -82,6 +83,12 @@ abbrev pub small_carried : List ℕ → List ℕ
 small_carried (seven ∷ k ∷ status ∷ more) = passed_over more
 small_carried _ = []
 
+-- the first answer that is repeated
+abbrev pub small_repeated : List (Option Repeated) → List ℕ
+small_repeated [] = []
+small_repeated (None ∷ places) = small_repeated places
+small_repeated (Some r ∷ places) = r.answer
+
 abbrev pub small_read : ℕ → ℕ → ℕ → List ℕ → Option Answer
 small_read seven k status more =
     cond (seven == 7)
@@ -115,6 +122,7 @@ small =
       reprice = λ plan change. Ok plan;
       answer = λ header status rulings carried. small_answer header status rulings ++ carried;
       carried = λ request rulings said. small_carried said;
+      repeated = λ request rulings places. small_repeated places;
       read_answer = small_read_answer;
       read_advice = small_read_answer;
       envelope = small_envelope;

@@ -23,7 +23,8 @@ AllAsAdvised b advice before id place (order ∷ orders) [] = ⊥
 AllAsAdvised b advice before id place (order ∷ orders) (r ∷ rulings) =
     AsAdvised b advice before place (judged before order) r × AllAsAdvised b advice (before ++ ruled id place order r ∷ []) id (place + 1) orders rulings
 
--- the book has one row more, whose rulings are as the advice says, and which carries what the advice says beside these, where answers do
+-- the book has one row more, whose rulings are as the advice says, and which carries what the advice says beside these, where answers do; without a
+-- text of an advice, what is repeated
 pub record EntersAdvised (ctx : Context) (b : Book) (advice : Advice) (id : TxnId) (request : List ℕ) (a : Answered) : Type 0 where
   pub rulings : List Ruling
   pub advised : AllAsAdvised b advice (ruled_rows ctx b.rows) id 1 (ctx.orders request) rulings

@@ -1,12 +1,14 @@
 -- One request at a payer.
-use Rattle.std.specs.Prelude.{ℕ, Bool, true, cond, ◌&&◌, nat_le, nat_lt, List, [], ◌∷◌, ◌++◌, length, Option, Some, None, Result, Ok, Err, find, bytes_eq}
+use Rattle.std.specs.Prelude.{ℕ, Bool, true, cond, ◌&&◌, nat_le, nat_lt, List, [], ◌∷◌, ◌++◌, length, map, Option, Some, None, option_map, option_and_then, Result, Ok, Err, find, bytes_eq}
 use Rattle.std.specs.List.{list_all}
+use Rattle.carried_fields.specs.Repeating.{Repeated}
 use Rattle.claim_profile.specs.Authorization.{largest_serial}
 use Rattle.claim_model.specs.Words.{TxnId, Advice, RequestHeader, Ruling, Paid, Duplicate, Reversed, Rejected}
 use Rattle.claim_model.specs.Context.{Context}
 use Rattle.claim_model.specs.Readable.{readable, payer_for, is_payer, answer_text, same_id}
 use Rattle.claim_model.specs.Refusal.{Refusal, Unreadable, NotOurs, NumberReused, BookFull, SerialsUsedUp, NotAdvised}
 use Rattle.claim_model.specs.Rows.{Row, BookSettings, Book, ruled_rows}
+use Rattle.claim_model.specs.Payments.{Payment, payment_of}
 use Rattle.claim_model.specs.Judgement.{rulings_from, all_advised}
 
 -- the greatest serial of an authorization
@@ -23,13 +25,39 @@ serial_fits (Rejected codes) = true
 abbrev pub row_of : TxnId → List Row → Option Row
 row_of id rows = find (λ row. same_id row.id id) rows
 
--- whether a payer's answers carry what an advice says beside its rulings: one that asks, where its settings say so
+-- whether a payer's answers carry what an advice says beside its rulings, and duplicates what their payments' answers do: one that asks, where
+-- its settings say so
 abbrev pub carries_more : BookSettings → Bool
 carries_more s = s.asks && s.carries
 
--- what the answer to a request with these rulings carries of an advice
+-- the answer of a row
+abbrev pub row_text : Context → Row → Option (List ℕ)
+row_text ctx row = option_map (λ h. answer_text ctx h row) (ctx.header row.request)
+
+-- where a payment was answered: the answer of its row, and its place there
+abbrev pub answered_at : Context → List Row → Option Payment → Option Repeated
+answered_at ctx rows None = None
+answered_at ctx rows (Some p) = option_map (λ text. record { answer = text; place = p.place }) (option_and_then (row_text ctx) (row_of p.id rows))
+
+-- where the payment that a duplicate names was answered; a ruling that names no payment before it repeats nothing
+abbrev pub repeated_by : Context → List Row → Ruling → Option Repeated
+repeated_by ctx rows (Paid auth prescription amounts) = None
+repeated_by ctx rows (Duplicate auth prescription amounts) = answered_at ctx rows (payment_of auth (ruled_rows ctx rows))
+repeated_by ctx rows (Reversed auth prescription) = None
+repeated_by ctx rows (Rejected codes) = None
+
+-- the first text, or where it has no byte the other one
+abbrev pub or_else : (text other : List ℕ) → List ℕ
+or_else [] other = other
+or_else (byte ∷ text) other = byte ∷ text
+
+-- what there is to be carried beside these rulings: what the advice says; without one, what the answers to the payments said that are repeated
+abbrev pub to_carry : Context → Book → Advice → List ℕ → List Ruling → List ℕ
+to_carry ctx b advice request rulings = or_else advice.text (ctx.repeated request rulings (map (repeated_by ctx b.rows) rulings))
+
+-- what the answer to a request with these rulings carries of it
 abbrev pub carried_by : Context → Book → Advice → List ℕ → List Ruling → List ℕ
-carried_by ctx b advice request rulings = cond (carries_more b.settings) (ctx.carried request rulings advice.text) []
+carried_by ctx b advice request rulings = cond (carries_more b.settings) (ctx.carried request rulings (to_carry ctx b advice request rulings)) []
 
 abbrev pub row_with : Context → Book → Advice → TxnId → List ℕ → List Ruling → Row
 row_with ctx b advice id request rulings = record { id = id; request = request; rulings = rulings; carried = carried_by ctx b advice request rulings }

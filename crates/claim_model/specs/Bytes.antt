@@ -9,9 +9,11 @@ use Rattle.claim_profile.specs.declared.order_reading.OrderFault.{OrderFault}
 use Rattle.claim_profile.specs.declared.order_reading.OrderFault.TheVariants.{Rejected as Refuses}
 use Rattle.claim_profile.specs.declared.answer_reading.AnswerFault.{AnswerFault}
 use Rattle.claim_profile.specs.Order.{order_of}
+use Rattle.claim_profile.specs.Answer.{answer_text}
 use Rattle.claim_profile.specs.Readable.{readable_header}
 use Rattle.claim_profile.specs.Ruling.{AnswerParts, answer_of, advice_of}
 use Rattle.carried_fields.specs.Carrying.{carrying_text, kept_text}
+use Rattle.carried_fields.specs.Repeating.{Repeated, repeating_text}
 use Rattle.plan_rules.specs.Pricing.{paid}
 use Rattle.plan_rules.specs.Terms.{changed}
 use Rattle.claim_model.specs.Words.{RequestHeader, AcceptedStatus, Order, Code, Ruling, Answer, Envelope, EnvelopeFault}
@@ -44,6 +46,11 @@ abbrev pub kept_under : Option RequestHeader → List Ruling → List ℕ → Li
 kept_under None rulings said = []
 kept_under (Some header) rulings said = kept_text header AcceptedStatus rulings said
 
+-- the answer to a request of this header, each of whose places says what it repeats
+abbrev pub repeated_under : Option RequestHeader → List Ruling → List (Option Repeated) → List ℕ
+repeated_under None rulings places = []
+repeated_under (Some header) rulings places = repeating_text (answer_text header AcceptedStatus rulings) places
+
 -- the reading of bytes with these routes, among these switches
 abbrev pub bytes_with : RouteMaps → Context
 bytes_with routes = record {
@@ -55,6 +62,7 @@ bytes_with routes = record {
   reprice = changed;
   answer = carrying_text;
   carried = λ request rulings said. kept_under (readable_header request) rulings said;
+  repeated = λ request rulings places. repeated_under (readable_header request) rulings places;
   read_answer = λ text. answer_in (answer_of text);
   read_advice = λ text. answer_in (advice_of text);
   envelope = λ e. envelope_text e.kind e.id e.payload;

@@ -1,5 +1,6 @@
 -- How bytes are read and written, which the model takes as it is: every definition and theorem is for any such reading.
 use Rattle.std.specs.Prelude.{ℕ, List, Option, Result}
+use Rattle.carried_fields.specs.Repeating.{Repeated}
 use Rattle.claim_model.specs.Words.{RequestHeader, Order, Code, Plan, Claim, Amounts, PlanFault, Status, Ruling, Answer, Envelope, EnvelopeFault, RouteKey, Change}
 
 pub record Context : Type 0 where
@@ -19,6 +20,8 @@ pub record Context : Type 0 where
   pub answer : RequestHeader → Status → List Ruling → List ℕ → List ℕ
   -- what an answer to a request with these rulings carries of the text of an advice
   pub carried : List ℕ → List Ruling → List ℕ → List ℕ
+  -- what the answer to a request with these rulings would be, did each of its places say what it repeats of an answer before
+  pub repeated : List ℕ → List Ruling → List (Option Repeated) → List ℕ
   -- the answer that a text spells; none where the text is no answer
   pub read_answer : List ℕ → Option Answer
   -- the answer that a text of a payer's own system spells, whose authorization numbers are not those of a book

@@ -45,6 +45,7 @@ small route = record {
   reprice = λ plan change. Ok plan;
   answer = λ h status rulings carried. letter status;
   carried = λ request rulings said. [];
+  repeated = λ request rulings places. [];
   read_answer = λ bytes. Some (record { header = small_response; rulings = [] });
   read_advice = λ bytes. Some (record { header = small_response; rulings = [] });
   envelope = λ e. kind_number e.kind ∷ e.id.pharmacy ∷ e.id.number ∷ e.payload;

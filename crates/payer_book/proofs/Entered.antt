@@ -8,7 +8,7 @@ use Rattle.claim_model.specs.Words.{Advice, TxnId, Ruling}
 use Rattle.claim_model.specs.Bytes.{bytes_with}
 use Rattle.claim_model.specs.Ruled.{Ruled}
 use Rattle.claim_model.specs.Rows.{Row, Book, ruled_row, ruled_rows}
-use Rattle.claim_model.specs.Book.{new_row, has_verdicts}
+use Rattle.claim_model.specs.Book.{or_else, new_row, has_verdicts}
 use Rattle.claim_model.proofs.BytesLaws.{NumbersInRange}
 use Rattle.payer_book.specs.declared.ruling.changes.Change.{Change}
 use Rattle.payer_book.specs.declared.book.payment.Payment.{Payment}
@@ -17,12 +17,14 @@ use Rattle.payer_book.specs.Changes.{changes_by, pays, standing_after, payments_
 use Rattle.payer_book.specs.Drafts.{ByPlan, asking_of, AsKept, Suits, pricing_of, rulings_on, all_advised_on}
 use Rattle.payer_book.specs.Added.{kept_rulings, row_saying}
 use Rattle.payer_book.specs.Books.{reading, payments_of, count_paid, Keeps, IsBook}
-use Rattle.payer_book.specs.Entries.{row_by}
+use Rattle.payer_book.specs.Advices.{given}
+use Rattle.payer_book.specs.Origins.{repeated_in, given_or}
+use Rattle.payer_book.specs.Entries.{row_by, row_with_said}
 use Rattle.payer_book.proofs.RulingLemmas.{verdict_same, consent_same, rulings_same, all_advised_same, all_possible, keeps_more}
 use Rattle.payer_book.proofs.Keeping.{rulings_by_on}
 use Rattle.payer_book.proofs.Numbers.{orders_numbered}
 
-ruled_rows_more : (rows : List Row) (row : Row) → ruled_rows reading (rows ++ row ∷ []) ≡ ruled_rows reading rows ++ ruled_row reading row
+pub ruled_rows_more : (rows : List Row) (row : Row) → ruled_rows reading (rows ++ row ∷ []) ≡ ruled_rows reading rows ++ ruled_row reading row
 ruled_rows_more [] row = append-nil (ruled_row reading row)
 ruled_rows_more (r ∷ rows) row =
     ap (λ (xs : List Ruled). ruled_row reading r ++ xs) (ruled_rows_more rows row) ∙ sym (append_assoc (ruled_row reading r) (ruled_rows reading rows) (ruled_row reading row))
@@ -90,5 +92,13 @@ module _ (routes : RouteMaps) (b : Book) (l : Ledger) (h : IsBook b.payer b.sett
       by_asks true is = refl
       by_asks false is = is
 
-  pub row_alike : row_by (pricing_of b advice) b id request advice.text ≡ new_row (bytes_with routes) b advice id request
-  row_alike = ap (λ (rs : List Ruling). row_saying b id request rs advice.text) (rulings_by_on b l h id request (pricing_of b advice) suits_own ∙ new_rulings_on)
+  -- what is carried of an advice
+  given_text : (text other : List ℕ) → given_or (given text) other ≡ or_else text other
+  given_text [] other = refl
+  given_text (byte ∷ text) other = refl
+
+  pub row_alike : row_by (pricing_of b advice) b id request (given advice.text) ≡ new_row (bytes_with routes) b advice id request
+  row_alike =
+      let rulings : List Ruling = (new_row (bytes_with routes) b advice id request).rulings in
+      ap (λ (rs : List Ruling). row_with_said b id request rs (given advice.text)) (rulings_by_on b l h id request (pricing_of b advice) suits_own ∙ new_rulings_on)
+      ∙ ap (row_saying b id request rulings) (given_text advice.text (reading.repeated request rulings (repeated_in b rulings)))

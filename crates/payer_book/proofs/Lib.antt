@@ -17,6 +17,7 @@ pub mod AnsweredAt
 pub mod Told
 pub mod Carried
 pub mod Entered
+pub mod Origins
 pub mod KeptRows
 pub mod Grown
 pub mod RuleRows

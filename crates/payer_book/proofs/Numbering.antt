@@ -15,10 +15,10 @@ use Rattle.claim_model.proofs.Tests.{auth_same}
 abbrev pub numbered : ℕ → ℕ → Auth
 numbered payer serial = record { payer = payer; serial = serial }
 
-same_parts : (a b : Auth) → a.payer ≡ b.payer → a.serial ≡ b.serial → same_auth a b ≡ true
+pub same_parts : (a b : Auth) → a.payer ≡ b.payer → a.serial ≡ b.serial → same_auth a b ≡ true
 same_parts a b p s = and_from (a.payer == b.payer) (a.serial == b.serial) (eq-eqb a.payer b.payer p) (eq-eqb a.serial b.serial s)
 
-other_serial : (a b : Auth) → (a.serial ≡ b.serial → ⊥) → same_auth a b ≡ false
+pub other_serial : (a b : Auth) → (a.serial ≡ b.serial → ⊥) → same_auth a b ≡ false
 other_serial a b d = and_right (a.payer == b.payer) (a.serial == b.serial) (ne_eqb a.serial b.serial d)
 
 other_payer : (a b : Auth) → (a.payer ≡ b.payer → ⊥) → same_auth a b ≡ false

@@ -10,7 +10,7 @@ use Rattle.payer_book.specs.Ledger.{Ledger, auth_of, payment_with}
 use Rattle.payer_book.specs.Books.{kept_by, kept, Keeps}
 use Rattle.payer_book.specs.Views.{payment_view, view_of}
 
-auth_kept : (p : model.Payment) (o : Option TxnId) → auth_of (kept_by p o) ≡ p.auth
+pub auth_kept : (p : model.Payment) (o : Option TxnId) → auth_of (kept_by p o) ≡ p.auth
 auth_kept p None = refl
 auth_kept p (Some id) = refl
 

@@ -13,6 +13,7 @@ pub mod PaymentPlaces
 pub mod Matches
 pub mod Drafts
 pub mod Books
+pub mod Origins
 pub mod Views
 pub mod Added
 pub mod Made

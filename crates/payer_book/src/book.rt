@@ -9,11 +9,13 @@ pub(crate) mod deciding;
 pub(crate) mod entering;
 pub(crate) mod held_rulings;
 pub(crate) mod hint;
+pub(crate) mod origins;
 pub(crate) mod payment;
 pub(crate) mod payments;
 pub(crate) mod place_map;
 pub(crate) mod placing;
 pub(crate) mod posting;
+pub(crate) mod repeating;
 pub(crate) mod rest;
 pub(crate) mod row;
 pub(crate) mod rows;
@@ -30,6 +32,7 @@ ghost use Rattle.payer_book.specs.Views.{payment_in, view_of};
 ghost use Rattle.payer_book.specs.Added.{kept_row, added_all, without_rows};
 ghost use Rattle.payer_book.specs.RowPlaces.{IsPlaceOf};
 
+use crate::book::origins::Origin;
 use crate::book::payment::Payment;
 use crate::book::payments::Payments;
 use crate::book::row::Row;
@@ -52,6 +55,8 @@ pub struct Book {
     pub(crate) plan: Plan,
     pub(crate) rows: Rows,
     pub(crate) payments: Payments,
+    /// Where each payment was ruled, in their order; nothing where the answers carry nothing.
+    pub(crate) origins: Vec<Origin>,
     /// Lists that one request after another is ruled in. No contract sees them.
     pub(crate) draft: Draft,
 }
@@ -60,13 +65,15 @@ impl Model for Book {
     ghost use Rattle.claim_model.specs.Rows.{Book as BookParts};
     ghost use Rattle.payer_book.specs.Books.{IsBook};
     ghost use Rattle.payer_book.specs.Made.{IsMade};
+    ghost use Rattle.std.specs.Prelude.{◌≡◌};
+    ghost use Rattle.payer_book.specs.Origins.{origins_of};
 
     ghost Value = { BookParts };
 
     ghost view = { λ b. record { payer = b.payer; settings = b.settings; plan = b.plan; rows = b.rows } };
 
     ghost invariant = { λ b. IsBook b.payer b.settings.serial b.rows b.payments
-        × IsMade b.payer b.settings b.rows b.payments };
+        × IsMade b.payer b.settings b.rows b.payments × (b.origins.items ≡ origins_of b.settings b.rows) };
 }
 
 /// The answer to a request, and whether the book had it already.
@@ -115,6 +122,7 @@ impl Book {
             plan,
             rows: Rows::new(alloc, keys),
             payments: Payments::new(alloc, payer, settings.serial(), keys),
+            origins: Vec::new(alloc),
             draft: Draft::new(alloc),
         }
     }

@@ -196,6 +196,9 @@ class Answer:
 
     rulings: tuple[Ruling, ...]
     """Of each transaction in turn."""
+    message: str = ""
+    """What the payer's own system says of all of them (504-F4): a text of at most 200 letters, or none. It reaches the pharmacy where a
+    network's answers are wide and the book rules every transaction so."""
 
     @classmethod
     def read(cls, message: bytes) -> Answer:
@@ -205,24 +208,27 @@ class Answer:
         if told["kind"] != "answer" or not found or len(found) != len(told["findings"]):
             raise ValueError("no answer")
         names = ("ruling", "authorization", "prescription", "cost", "fee", "copay", "total")
-        said = _messages_in(told["parts"])
+        before, said = _messages_in(told["parts"])
         return cls(
             tuple(
                 Ruling(
                     **{name: one.get(name) for name in names}, codes=tuple(one.get("codes", "").split()), messages=texts
                 )
                 for one, texts in zip(found, said)
-            )
+            ),
+            before,
         )
 
     def to(self, request: bytes) -> bytes:
         """The bytes of this answer to a request, as a payer's own system gives them; the header is the request's. Of a ruling the total
         may be left out, and the authorization, since a payer's node gives its own. ValueError where no answer reads back so.
         """
-        head = b"D0%s%dA%s" % (request[8:10], len(self.rulings), request[21:46])
+        head = b"D0%s%dA%s%s" % (request[8:10], len(self.rulings), request[21:46], _told_before(self.message))
         whole = tuple(map(_whole, self.rulings))
         # An answer of a book does not say that a reversal was approved before, so it is read as if it were approved now.
-        once = Answer(tuple(replace(one, again=False) if one.ruling == "reversed" else one for one in whole))
+        once = Answer(
+            tuple(replace(one, again=False) if one.ruling == "reversed" else one for one in whole), self.message
+        )
         if Answer.read(head + b"".join(map(_group, once.rulings))) != once:
             raise ValueError("no answer has these rulings")
         return head + b"".join(map(_group, whole))
@@ -231,19 +237,34 @@ class Answer:
 # How an answer tells each ruling (112-AN), and the authorization that stands where there is none.
 _STATUS = {"paid": b"P", "duplicate": b"D", "reversed": b"A", "rejected": b"R"}
 _ANY_AUTHORIZATION = "0001000000000001"
-# The most messages of a transaction (130-UF), and the most letters of one.
-_MOST_MESSAGES, _MOST_LETTERS = 25, 40
+# The most messages of a transaction (130-UF), the most letters of one, and the most of that of all transactions.
+_MOST_MESSAGES, _MOST_LETTERS, _MOST_OF_ALL = 25, 40, 200
 
 
-def _messages_in(parts: list[dict[str, Any]]) -> list[tuple[str, ...]]:
-    """The messages of each transaction of an answer."""
+def _messages_in(parts: list[dict[str, Any]]) -> tuple[str, list[tuple[str, ...]]]:
+    """The message of an answer in front of all transactions, and those of each."""
+    before = ""
     found: list[list[str]] = []
     for part in parts:
         if "transaction" in part:
             found.append([])
         elif found and part.get("field") == "526-FQ":
-            found[-1].append(unprinted(part["value"].encode("ascii")).decode("latin-1"))
-    return [tuple(texts) for texts in found]
+            found[-1].append(_text_of(part))
+        elif not found and part.get("field") == "504-F4":
+            before = _text_of(part)
+    return before, [tuple(texts) for texts in found]
+
+
+def _text_of(part: dict[str, Any]) -> str:
+    """The text of a field."""
+    return unprinted(part["value"].encode("ascii")).decode("latin-1")
+
+
+def _told_before(text: str) -> bytes:
+    """How an answer tells the message of all its transactions: in a segment in front of them."""
+    if len(text) > _MOST_OF_ALL:
+        raise ValueError("no answer has this message")
+    return b"\x1e\x1cAM20\x1cF4" + text.encode("latin-1") if text else b""
 
 
 def _told_messages(texts: tuple[str, ...]) -> bytes:

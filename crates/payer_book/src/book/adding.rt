@@ -120,7 +120,7 @@ impl Book {
             said: &likely,
         };
         let row = self
-            .prepare(alloc, draft, id, framed, request, prices, answer)
+            .prepare(alloc, draft, id, framed, request, prices, Some(answer))
             .ok()?;
         if row.answer() == answer {
             Some(row)
@@ -152,7 +152,7 @@ impl Book {
             reversals: self.settings.reversals(),
             said: said.rulings(),
         };
-        let row = self.prepare(alloc, draft, id, framed, request, prices, answer)?;
+        let row = self.prepare(alloc, draft, id, framed, request, prices, Some(answer))?;
         if row.answer() != answer {
             return Err(RowFault::BadRow);
         }

@@ -119,7 +119,8 @@ impl Book {
             return Err(Fault::Refused(Refusal::BookFull));
         }
         let prices = self.prices(advice);
-        let row = self.prepare(alloc, draft, id, &framed, request, prices, advice.text)?;
+        let said = advice.given();
+        let row = self.prepare(alloc, draft, id, &framed, request, prices, said)?;
         if draft.advised {
             Ok(row)
         } else {

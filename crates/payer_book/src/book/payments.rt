@@ -85,7 +85,7 @@ impl Payments {
     }
 
     /// The place of the payment of that authorization.
-    fn place_of(&self, auth: Auth) -> Option<usize>
+    pub(crate) fn place_of(&self, auth: Auth) -> Option<usize>
         ensures { IsPlaceOf auth self.now.payments result }
     {
         if auth.payer() != self.payer.get() {

@@ -6,6 +6,7 @@ ghost use Rattle.d0_header.specs.Request.{request_of};
 ghost use Rattle.claim_profile.specs.Readable.{readable_header};
 ghost use Rattle.claim_model.specs.Bytes.{bytes_with};
 ghost use Rattle.claim_model.specs.Readable.{route_key};
+ghost use Rattle.claim_model.specs.Book.{row_text};
 ghost use Rattle.claim_model.specs.Held.{row_answer};
 ghost use Rattle.envelope.specs.Envelope.{longest_payload};
 ghost use Rattle.payer_book.specs.Kept.{IsAnswered, carried_of};
@@ -115,6 +116,7 @@ impl Row {
         ensures kept { IsAnswered self.now.request self.now.rulings self.now.carried result.now }
         ensures short { length result.now ≤ longest_payload }
         ensures value { (routes : RouteMaps) → Some result.now ≡ row_answer (bytes_with routes) self.now }
+        ensures row { (routes : RouteMaps) → Some result.now ≡ row_text (bytes_with routes) self.now }
         ensures text { result.now ≡ kept_answer self.now }
     {
         self.texts.answer()

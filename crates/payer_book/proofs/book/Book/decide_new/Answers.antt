@@ -4,7 +4,7 @@ use Rattle.std.specs.List.{list_all}
 use Rattle.std.proofs.lemmas.Bool.{le-ltb, lt-ltb}
 use Rattle.std.proofs.lemmas.Result.{err_from_is_err_and}
 use Rattle.carried_fields.specs.Carrying.{carrying_text}
-use Rattle.payer_book.specs.Advices.{advice_seen}
+use Rattle.payer_book.specs.Advices.{advice_seen, given}
 use Rattle.claim_model.specs.Words.{RequestHeader, AcceptedStatus}
 use Rattle.claim_model.specs.Bytes.{bytes_with}
 use Rattle.claim_model.specs.Readable.{is_payer, payer_for}
@@ -70,15 +70,15 @@ module _ (c : After-leads_to) (ours : c.leads_to.result ≡ true) (room : length
       subst (λ (g : Fault). IsRefused (refusal_of g) (answered (bytes_with c.args.routes.now) c.args.self.now (advice_seen c.args.advice) c.args.id c.args.request.now)) (sym e.0)
       (subst (λ (b : Book). answered (bytes_with c.args.routes.now) b (advice_seen c.args.advice) c.args.id c.args.request.now ≡ Err Refusal.SerialsUsedUp) c.self.view_is
       (used_up c.args.routes.now (opened c) (advice_seen c.args.advice) c.args.id c.args.request.now c.in-Some.framed.header c.in-Some.ensures.readable (routed c true ours)
-      (fresh c) (lt-ltb (length c.self.inside.rows) c.self.inside.settings.cap room) (row_by own (opened c) c.args.id c.args.request.now c.args.advice.text.now)
+      (fresh c) (lt-ltb (length c.self.inside.rows) c.self.inside.settings.cap room) (row_by own (opened c) c.args.id c.args.request.now (given c.args.advice.text.now))
       (row_alike c.args.routes.now (opened c) c.self.inside.payments c.self.invariant.0 (advice_seen c.args.advice) c.args.id c.args.request.now) unfit_here))
 
   module _ (prices : Pricing) (is : prices ≡ pricing_of c.args.self.now (advice_seen c.args.advice)) (row : Row) (changes : List Change)
-      (made : IsEntry c.args.self.now row changes × (row ≡ row_by prices c.args.self.now c.args.id c.args.request.now c.args.advice.text.now)) where
-    row_here : row ≡ row_by own (opened c) c.args.id c.args.request.now c.args.advice.text.now
+      (made : IsEntry c.args.self.now row changes × (row ≡ row_by prices c.args.self.now c.args.id c.args.request.now (given c.args.advice.text.now))) where
+    row_here : row ≡ row_by own (opened c) c.args.id c.args.request.now (given c.args.advice.text.now)
     row_here =
-        subst (λ (b : Book). row ≡ row_by (pricing_of b (advice_seen c.args.advice)) b c.args.id c.args.request.now c.args.advice.text.now) (sym c.self.view_is)
-        (made.1 ∙ ap (λ (p : Pricing). row_by p c.args.self.now c.args.id c.args.request.now c.args.advice.text.now) is)
+        subst (λ (b : Book). row ≡ row_by (pricing_of b (advice_seen c.args.advice)) b c.args.id c.args.request.now (given c.args.advice.text.now)) (sym c.self.view_is)
+        (made.1 ∙ ap (λ (p : Pricing). row_by p c.args.self.now c.args.id c.args.request.now (given c.args.advice.text.now)) is)
 
     alike : row ≡ new_row (bytes_with c.args.routes.now) (opened c) (advice_seen c.args.advice) c.args.id c.args.request.now
     alike = row_here ∙ row_alike c.args.routes.now (opened c) c.self.inside.payments c.self.invariant.0 (advice_seen c.args.advice) c.args.id c.args.request.now
@@ -128,8 +128,8 @@ returns-then-draft-clause-decided c =
     let d = (goal.at.returns-then-draft-clause-decided c).After-leads_to in
     let room : length c.self.inside.rows < c.self.inside.settings.cap = omega (arith, c.len.ensures, c.cap.ensures.value, c.if-len-cap.false) in
     let own = c.prices-prices.ensures.pricing in
-    is_new d c.if-not-leads_to.false room (pricing c.prices-prices.result) own c.in_ok-row.row c.prepare.new.draft.changes.items c.in_ok-row.ensures.made
-    (sym (verdicts d c.if-not-leads_to.false room (pricing c.prices-prices.result) own c.in_ok-row.row c.prepare.new.draft.changes.items c.in_ok-row.ensures.made true
+    is_new d c.if-not-leads_to.false room (pricing c.prices-prices.result) own c.in_ok-row.row c.prepare.new.draft.changes.items (c.in_ok-row.ensures.made.0, c.in_ok-row.ensures.made.1 ∙ ap (row_by (pricing c.prices-prices.result) c.args.self.now c.args.id c.args.request.now) c.given-said.ensures)
+    (sym (verdicts d c.if-not-leads_to.false room (pricing c.prices-prices.result) own c.in_ok-row.row c.prepare.new.draft.changes.items (c.in_ok-row.ensures.made.0, c.in_ok-row.ensures.made.1 ∙ ap (row_by (pricing c.prices-prices.result) c.args.self.now c.args.id c.args.request.now) c.given-said.ensures) true
     (sym c.if-draft.true ∙ c.in_ok-row.ensures.advised (advice_seen c.args.advice) own)))
 
 pub returns-else-draft-clause-fault : goal.returns-else-draft-clause-fault
@@ -137,6 +137,6 @@ returns-else-draft-clause-fault c =
     let d = (goal.at.returns-else-draft-clause-fault c).After-leads_to in
     let room : length c.self.inside.rows < c.self.inside.settings.cap = omega (arith, c.len.ensures, c.cap.ensures.value, c.if-len-cap.false) in
     let own = c.prices-prices.ensures.pricing in
-    lacks d c.if-not-leads_to.false room (pricing c.prices-prices.result) own c.in_ok-row.row c.prepare.new.draft.changes.items c.in_ok-row.ensures.made
-    (sym (verdicts d c.if-not-leads_to.false room (pricing c.prices-prices.result) own c.in_ok-row.row c.prepare.new.draft.changes.items c.in_ok-row.ensures.made false
+    lacks d c.if-not-leads_to.false room (pricing c.prices-prices.result) own c.in_ok-row.row c.prepare.new.draft.changes.items (c.in_ok-row.ensures.made.0, c.in_ok-row.ensures.made.1 ∙ ap (row_by (pricing c.prices-prices.result) c.args.self.now c.args.id c.args.request.now) c.given-said.ensures)
+    (sym (verdicts d c.if-not-leads_to.false room (pricing c.prices-prices.result) own c.in_ok-row.row c.prepare.new.draft.changes.items (c.in_ok-row.ensures.made.0, c.in_ok-row.ensures.made.1 ∙ ap (row_by (pricing c.prices-prices.result) c.args.self.now c.args.id c.args.request.now) c.given-said.ensures) false
     (sym c.if-draft.false ∙ c.in_ok-row.ensures.advised (advice_seen c.args.advice) own)))
