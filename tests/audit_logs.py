@@ -59,15 +59,33 @@ def random_world(seed, events):
     return (HEAD + "\n".join(lines) + "\n").encode()
 
 
-def with_terms(text, seed):
-    """An input between whose events the terms of payer 1 change, to what they are too; some changes are refused."""
+# Rules of retries that no pharmacy takes: of a switch that is not there, and of too few or too many ticks or tries.
+NO_RULES = [(b"sw9", 1, 1), (b"sw1,sw3", 1, 1), (b"sw1", 0, 1), (b"sw1", 1, 0), (b"sw1", 1001, 1), (b"sw1", 1, 1001)]
+
+
+def another_rule(dice, rule):
+    """A rule of retries: what it is, another one, or one that is refused."""
+    switches = b",".join(dice.choices([b"sw1", b"sw2"], k=dice.randrange(1, 4)))
+    numbers = [dice.choice([1, 2, 3, 1000]) for _ in range(2)]
+    return dice.choice([rule, (switches, *numbers), (switches, *numbers), dice.choice(NO_RULES)])
+
+
+def with_changes(text, seed):
+    """An input between whose events the terms of payer 1 and the rules of retries of both pharmacies change, to what they are too; some changes are
+    refused."""
     dice = random.Random(seed)
     head, lines = text.split(b"---\n")
-    made, terms = [], (150, 1000)
+    made, terms, rules = [], (150, 1000), {1: (b"sw1,sw2", 2, 2), 2: (b"sw2", 2, 2)}
     for line in lines.splitlines():
         if dice.random() < 0.2:
             terms = dice.choice([terms, (dice.randrange(300), dice.randrange(2000)), (100000000, 0)])
             made.append(b"terms pr1 %d %d" % terms)
+        if dice.random() < 0.2:
+            pharmacy = dice.choice([1, 2])
+            rule = another_rule(dice, rules[pharmacy])
+            made.append(b"retry ph%d %s %d %d" % (pharmacy, *rule))
+            if rule not in NO_RULES:
+                rules[pharmacy] = rule
         made.append(line)
     return head + b"---\n" + b"\n".join(made) + b"\n"
 

@@ -254,19 +254,25 @@ def calls(folder, logs):
     os.remove(other)
 
 
-# The tables of changes of plans: the kinds of calls of which they tell, and their columns behind the payer and the place.
+# What a rule of retries has, as columns name it.
+RULE = ("switches", "again", "tries")
+# The tables of changes of plans and of rules of retries: the letters of the nodes whose they are, the kinds of calls of which they tell, and their
+# columns behind the node and the place.
 CHANGES = {
-    "prices": ((5, 6), ("product", "price_before_ten_thousandths", "price_after_ten_thousandths")),
-    "terms": ((9,), ("fee_before_cents", "copay_before_cents", "fee_after_cents", "copay_after_cents")),
+    "prices": ("pr", (5, 6), ("product", "price_before_ten_thousandths", "price_after_ten_thousandths")),
+    "terms": ("pr", (9,), ("fee_before_cents", "copay_before_cents", "fee_after_cents", "copay_after_cents")),
+    "retries": ("ph", (10,), tuple(f"{it}_{when}" for when in ("before", "after") for it in RULE)),
 }
 
 
 def changes_wanted(schedule):
-    """The rows of each table of changes, by what a schedule says of plans: payer, event, and the other columns."""
+    """The rows of each table of changes, by what a schedule says of plans and rules: payer or pharmacy, event, and the other columns."""
     spelled, lines = re.split("(?m)^---\n", schedule, maxsplit=1)
-    payers = dict(enumerate(tomllib.loads(spelled)["payer"], 1))
+    settings = tomllib.loads(spelled)
+    payers = dict(enumerate(settings["payer"], 1))
     prices = {(str(n), it): str(price) for n, of in payers.items() for it, price in of.get("prices", {}).items()}
     terms = {str(n): (str(of["fee"]), str(of["copay"])) for n, of in payers.items()}
+    rules = {str(n): opening_rule(settings, of) for n, of in enumerate(settings["pharmacy"], 1)}
     wanted = {name: [] for name in CHANGES}
     for event, words in enumerate((line.split(" ") for line in lines.split("\n")), 1):
         payer = words[1][2:] if words[0] in ("plan", "terms") else ""
@@ -280,28 +286,37 @@ def changes_wanted(schedule):
             after = words[2], words[3]
             wanted["terms"].append((payer, str(event), *terms[payer], *after))
             terms[payer] = after
+        elif words[0] == "retry":
+            pharmacy, after = words[1][2:], (words[2].replace(",", " "), *words[3:])
+            wanted["retries"].append((pharmacy, str(event), *rules[pharmacy], *after))
+            rules[pharmacy] = after
     return wanted
 
 
+def opening_rule(settings, pharmacy):
+    """The rule of retries of a pharmacy by the settings, as a table has it."""
+    return " ".join(f"sw{it}" for it in pharmacy["nodes"]), str(settings["again"]), str(settings["tries"])
+
+
 def changes(folder, logs, schedule):
-    """The changes of plans of a run are those of its schedule, each with what was before it; those of one log are the same by its calls."""
+    """The changes of a run are those of its schedule, each with what was before it; those of one log are the same by its calls."""
     for table, wanted in changes_wanted(schedule).items():
-        kinds, columns = CHANGES[table]
+        node, kinds, columns = CHANGES[table]
         code, out, err = audit(folder, logs, "--csv", table)
         told = [tuple(it.values()) for it in rows_in(out)]
         expect(table, (code, err) == (0, "") and told == wanted, f"{folder}: {told} in place of {wanted}")
-        expect(table, out.split("\n")[0] == ",".join(("payer", "event", *columns)), f"{folder}: {out}")
+        expect(table, out.split("\n")[0] == ",".join((NAMES[node], "event", *columns)), f"{folder}: {out}")
         for log in logs:
             name = os.path.basename(log)
             with open(log, "rb") as file:
                 data = file.read()
             places = [i for i, (begin, _) in enumerate(records(data), 1) if data[begin + 16] in kinds]
-            mine = [it for it in wanted if name == f"pr{it[0]}.log"]
+            mine = [it for it in wanted if name == f"{node}{it[0]}.log"]
             own = [(it[0], str(place), *it[2:]) for it, place in zip(mine, places, strict=True)]
             code, out, err = audit(folder, [log], "--alone", "--csv", table)
             told = [tuple(it.values()) for it in rows_in(out)]
             expect(table, (code, err) == (0, "") and told == own, f"{log}: {out} in place of {own}")
-            expect(table, out.split("\n")[0] == ",".join(("payer", "call", *columns)), f"{log}: {out}")
+            expect(table, out.split("\n")[0] == ",".join((NAMES[node], "call", *columns)), f"{log}: {out}")
 
 
 def no_tables(folder, logs):

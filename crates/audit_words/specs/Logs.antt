@@ -3,7 +3,7 @@ use Rattle.std.specs.Prelude.{ℕ, Bool, List, [], ◌∷◌, ◌++◌, Option, 
 use Rattle.clap.specs.Words.{first_value}
 use Rattle.clap.specs.declared.parser.matches.Found.{Found}
 use Rattle.log_audit.specs.declared.plans.tables.Changes.{Changes as Changing}
-use Rattle.log_audit.specs.declared.plans.tables.Changes.TheVariants.{Prices, Terms}
+use Rattle.log_audit.specs.declared.plans.tables.Changes.TheVariants.{Prices, Terms, Retries}
 use Rattle.log_audit.specs.declared.report.Form.{Form}
 use Rattle.log_audit.specs.declared.report.Form.TheVariants.{Json, Csv, Changes, Schedule}
 use Rattle.log_audit.specs.declared.tables.table.Table.{Table}
@@ -20,10 +20,10 @@ abbrev pub judged : Scope → Form → Asked
 judged scope form = Verdict (record { scope = scope; form = form })
 
 -- the forms that are tables, by their names: of each log by itself and of days the entries without an answer too, and of a run its packets; changes
--- of plans are not told of days
+-- of plans and of rules are not told of days
 abbrev pub change_forms : Scope → List (List ℕ × Form)
-change_forms Run = (codes "prices", Changes Prices) ∷ (codes "terms", Changes Terms) ∷ []
-change_forms Each = (codes "prices", Changes Prices) ∷ (codes "terms", Changes Terms) ∷ []
+change_forms Run = (codes "prices", Changes Prices) ∷ (codes "terms", Changes Terms) ∷ (codes "retries", Changes Retries) ∷ []
+change_forms Each = (codes "prices", Changes Prices) ∷ (codes "terms", Changes Terms) ∷ (codes "retries", Changes Retries) ∷ []
 change_forms Days = []
 
 abbrev pub last_form : Scope → List ℕ × Form
@@ -88,9 +88,12 @@ table_named scope name =
     if bytes_eq name (codes "rows") then Some Rows else
     if bytes_eq name (codes "counted") then Some Counted else last_table scope name
 
--- a change of plans, where this is its name and it is told in the scope
+-- changes of plans or of rules, where this is their name and they are told in the scope
 abbrev pub changes_named : List ℕ → Option Changing
-changes_named name = if bytes_eq name (codes "prices") then Some Prices else (if bytes_eq name (codes "terms") then Some Terms else None)
+changes_named name =
+    if bytes_eq name (codes "prices") then Some Prices else
+    if bytes_eq name (codes "terms") then Some Terms else
+    if bytes_eq name (codes "retries") then Some Retries else None
 
 abbrev pub changes_in : Scope → List ℕ → Option Changing
 changes_in Run name = changes_named name

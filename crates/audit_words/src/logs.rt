@@ -105,7 +105,7 @@ fn csv_named(scope: Scope, name: &[u8]) -> Option<Asked>
     Some(judged(scope, Form::Csv(table)))
 }
 
-/// The changes of plans of this name, which are not told of days.
+/// The changes of this name, which are not told of days.
 fn changes_in(scope: Scope, name: &[u8]) -> Option<Changes>
     ensures { result ≡ changes_in scope name.now }
 {
@@ -116,7 +116,7 @@ fn changes_in(scope: Scope, name: &[u8]) -> Option<Changes>
     }
 }
 
-/// The changes of plans of this name.
+/// The changes of this name.
 fn changes_named(name: &[u8]) -> Option<Changes>
     ensures { result ≡ changes_named name.now }
 {
@@ -125,6 +125,9 @@ fn changes_named(name: &[u8]) -> Option<Changes>
     }
     if name == b"terms".as_slice() {
         return Some(Changes::Terms);
+    }
+    if name == b"retries".as_slice() {
+        return Some(Changes::Retries);
     }
     None
 }

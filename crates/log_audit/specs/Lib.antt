@@ -34,6 +34,8 @@ pub mod Reasons
 pub mod Changes
 pub mod Prices
 pub mod Terms
+pub mod Following
+pub mod Rules
 pub mod ChangeTables
 pub mod Telling
 pub mod LoneTelling

@@ -10,6 +10,7 @@ mod outgoing;
 mod plans;
 mod reading;
 mod report;
+mod rules;
 mod sentences;
 mod tables;
 

@@ -51,7 +51,7 @@ pub enum Form {
     /// A table of what the run left, or of what the nodes have, as CSV; nothing where there is none, or a node does not make its
     /// log.
     Csv(Table),
-    /// The changes of payers' plans, as CSV; nothing where there is no table.
+    /// The changes of payers' plans or of pharmacies' rules of retries, as CSV; nothing where there is no table.
     Changes(Changes),
     /// The input of a replay of the run; the lines where there is none.
     Schedule,
@@ -209,7 +209,7 @@ fn put_table_of<K: TextSink + Drop>(
     put_left_table(alloc, out, settings_alone(audited), run, table)
 }
 
-/// The changes of plans of a run.
+/// The changes of a run.
 fn changes_of(
     alloc: Global,
     audited: Audited,

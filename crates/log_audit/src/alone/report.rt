@@ -197,7 +197,7 @@ fn put_table_of<K: TextSink + Drop>(
     }
 }
 
-/// Puts the changes of payers' plans, where each node makes its log.
+/// Puts the changes of plans or of rules, where each node makes its log.
 fn put_changes_of<K: TextSink + Drop>(
     alloc: Global,
     audited: &Audited,

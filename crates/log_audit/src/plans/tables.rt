@@ -1,4 +1,4 @@
-//! Tables of the changes of payers' plans, of a run or of logs.
+//! Tables of the changes of payers' plans, and of pharmacies' rules of retries, of a run or of logs.
 
 ghost use Rattle.std.specs.Prelude.{◌≡◌, [], map, IfOk, OnOk};
 ghost use Rattle.std.specs.List.{flat_map};
@@ -8,25 +8,38 @@ ghost use Rattle.table_text.specs.Adding.{Adds, AddsRows};
 ghost use Rattle.table_text.specs.Rows.{head_text};
 ghost use Rattle.table_text.specs.declared.layout.Style.TheVariants.{Csv};
 ghost use Rattle.log_audit.specs.Changes.{change_seen, event_changes, log_changes};
-ghost use Rattle.log_audit.specs.ChangeTables.{change_names, change_rows, changes_csv, log_changes_csv, rows_behind, run_changes_csv};
+ghost use Rattle.log_audit.specs.Following.{rows_behind};
+ghost use Rattle.log_audit.specs.ChangeTables.{change_names, change_rows, changes_csv, log_changes_csv, log_plans_csv, run_changes_csv, run_plans_csv};
 
 use crate::plans::changes::{Change, event_changes, log_changes};
 use crate::plans::prices::{put_price_change, put_price_names};
 use crate::plans::terms::{put_terms_change, put_terms_names};
+use crate::rules::table::{log_rules_csv, run_rules_csv};
 use node_log::NodeLog;
 use std::alloc::{AllocError, Global};
 use world_setup::{Event, WorldSettings};
 
-/// Of which changes of payers' plans a table tells.
+/// Of which changes a table tells.
 #[derive(Clone, Copy, PartialEq, Eq)]
 pub enum Changes {
+    /// Those of prices of payers' products.
+    Prices,
+    /// Those of payers' fees and copays.
+    Terms,
+    /// Those of pharmacies' rules of retries.
+    Retries,
+}
+
+/// Of which changes of payers' plans a table tells.
+#[derive(Clone, Copy)]
+pub(crate) enum Plans {
     /// Those of prices of products.
     Prices,
     /// Those of the fee and the copay.
     Terms,
 }
 
-/// The changes of plans of a run, by its events, as CSV.
+/// The changes of a run, by its events, as CSV.
 pub(crate) fn run_changes_csv(
     alloc: Global,
     settings: &WorldSettings,
@@ -35,11 +48,27 @@ pub(crate) fn run_changes_csv(
 ) -> Result<Vec<u8>, AllocError>
     ensures { IfOk result (λ text. text.items ≡ run_changes_csv settings.now of (map event_seen events.now)) }
 {
+    match of {
+        Changes::Prices => run_plans_csv(alloc, settings, Plans::Prices, events),
+        Changes::Terms => run_plans_csv(alloc, settings, Plans::Terms, events),
+        Changes::Retries => run_rules_csv(alloc, settings, events),
+    }
+}
+
+/// The changes of plans of a run, by its events, as CSV.
+fn run_plans_csv(
+    alloc: Global,
+    settings: &WorldSettings,
+    of: Plans,
+    events: &[Event],
+) -> Result<Vec<u8>, AllocError>
+    ensures { IfOk result (λ text. text.items ≡ run_plans_csv settings.now of (map event_seen events.now)) }
+{
     let changes = event_changes(alloc, events)?;
     changes_csv(alloc, settings, of, b"event", changes.as_slice())
 }
 
-/// The changes of plans of payers of these logs, by the calls of each, as CSV.
+/// The changes among the calls of each of these logs, as CSV.
 pub(crate) fn log_changes_csv(
     alloc: Global,
     settings: &WorldSettings,
@@ -47,6 +76,22 @@ pub(crate) fn log_changes_csv(
     logs: &[NodeLog],
 ) -> Result<Vec<u8>, AllocError>
     ensures { IfOk result (λ text. text.items ≡ log_changes_csv settings.now of (logs_seen logs.now)) }
+{
+    match of {
+        Changes::Prices => log_plans_csv(alloc, settings, Plans::Prices, logs),
+        Changes::Terms => log_plans_csv(alloc, settings, Plans::Terms, logs),
+        Changes::Retries => log_rules_csv(alloc, settings, logs),
+    }
+}
+
+/// The changes of plans of payers of these logs, by the calls of each, as CSV.
+fn log_plans_csv(
+    alloc: Global,
+    settings: &WorldSettings,
+    of: Plans,
+    logs: &[NodeLog],
+) -> Result<Vec<u8>, AllocError>
+    ensures { IfOk result (λ text. text.items ≡ log_plans_csv settings.now of (logs_seen logs.now)) }
 {
     let changes = log_changes(alloc, logs)?;
     changes_csv(alloc, settings, of, b"call", changes.as_slice())
@@ -57,7 +102,7 @@ pub(crate) fn log_changes_csv(
 fn changes_csv(
     alloc: Global,
     settings: &WorldSettings,
-    of: Changes,
+    of: Plans,
     name: &'static [u8],
     changes: &[Change<'_>],
 ) -> Result<Vec<u8>, AllocError>
@@ -70,12 +115,12 @@ fn changes_csv(
 }
 
 /// Appends the names of the columns.
-fn put_names(out: &mut Vec<u8>, of: Changes, name: &[u8]) -> Result<(), AllocError>
+fn put_names(out: &mut Vec<u8>, of: Plans, name: &[u8]) -> Result<(), AllocError>
     ensures { OnOk result (Adds out.old out.new (head_text (change_names of name.now))) }
 {
     match of {
-        Changes::Prices => put_price_names(out, name),
-        Changes::Terms => put_terms_names(out, name),
+        Plans::Prices => put_price_names(out, name),
+        Plans::Terms => put_terms_names(out, name),
     }
 }
 
@@ -83,12 +128,12 @@ fn put_names(out: &mut Vec<u8>, of: Changes, name: &[u8]) -> Result<(), AllocErr
 fn put_changes(
     out: &mut Vec<u8>,
     settings: &WorldSettings,
-    of: Changes,
+    of: Plans,
     name: &'static [u8],
     changes: &[Change<'_>],
 ) -> Result<(), AllocError>
     ensures { OnOk result (AddsRows Csv out.old out.new
-        (rows_behind settings.now of name.now [] (map change_seen changes.now))) }
+        (rows_behind (change_rows settings.now of name.now) [] (map change_seen changes.now))) }
 {
     for (place, change) in changes.iter().enumerate() {
         put_change(out, settings, of, name, &changes[..place], change)?;
@@ -100,7 +145,7 @@ fn put_changes(
 fn put_change(
     out: &mut Vec<u8>,
     settings: &WorldSettings,
-    of: Changes,
+    of: Plans,
     name: &'static [u8],
     before: &[Change<'_>],
     change: &Change<'_>,
@@ -109,7 +154,7 @@ fn put_change(
         (change_rows settings.now of name.now (map change_seen before.now) (change_seen change.now))) }
 {
     match of {
-        Changes::Prices => put_price_change(out, settings, name, before, change),
-        Changes::Terms => put_terms_change(out, settings, name, before, change),
+        Plans::Prices => put_price_change(out, settings, name, before, change),
+        Plans::Terms => put_terms_change(out, settings, name, before, change),
     }
 }
