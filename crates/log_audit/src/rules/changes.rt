@@ -5,7 +5,7 @@ ghost use Rattle.std.specs.List.{flat_map};
 ghost use Rattle.pharmacy_journal.specs.Ruling.{rule_in};
 ghost use Rattle.world_setup.specs.Seen.{call_seen, event_seen};
 ghost use Rattle.node_log.specs.LogSeen.{log_seen, logs_seen};
-ghost use Rattle.log_audit.specs.Rules.{call_rule, call_rules, event_rule, event_rules, log_rules, ruled_seen};
+ghost use Rattle.log_audit.specs.Rules.{call_rule, call_rules, event_rule, event_rules, log_rules, change_seen};
 
 use node_log::{NodeLog, Record};
 use pharmacy_journal::switch_numbers;
@@ -15,7 +15,7 @@ use world_setup::{Call, Event, Node};
 /// A change of a pharmacy's rule of retries, by its place among events, or among the calls of a log: the switches that it
 /// tries in turn from here on, after how many ticks and how often.
 #[derive(Drop)]
-pub(crate) struct Ruled {
+pub(crate) struct RuleChange {
     pub(crate) pharmacy: u64,
     pub(crate) place: u64,
     pub(crate) nodes: Vec<u16>,
@@ -24,8 +24,8 @@ pub(crate) struct Ruled {
 }
 
 /// The changes among events.
-pub(crate) fn event_rules(alloc: Global, events: &[Event]) -> Result<Vec<Ruled>, AllocError>
-    ensures { IfOk result (λ rules. map ruled_seen rules.items ≡ event_rules 1 (map event_seen events.now)) }
+pub(crate) fn event_rules(alloc: Global, events: &[Event]) -> Result<Vec<RuleChange>, AllocError>
+    ensures { IfOk result (λ rules. map change_seen rules.items ≡ event_rules 1 (map event_seen events.now)) }
 {
     let mut rules = Vec::new(alloc);
     for (passed, event) in events.iter().enumerate() {
@@ -35,9 +35,9 @@ pub(crate) fn event_rules(alloc: Global, events: &[Event]) -> Result<Vec<Ruled>,
 }
 
 /// Adds the change that an event is, if it is one.
-fn push_event(rules: &mut Vec<Ruled>, number: u64, event: &Event) -> Result<(), AllocError>
-    ensures { OnOk result (map ruled_seen rules.new.items
-        ≡ map ruled_seen rules.old.items ++ event_rule number (event_seen event.now)) }
+fn push_event(rules: &mut Vec<RuleChange>, number: u64, event: &Event) -> Result<(), AllocError>
+    ensures { OnOk result (map change_seen rules.new.items
+        ≡ map change_seen rules.old.items ++ event_rule number (event_seen event.now)) }
 {
     match event {
         Event::Retry {
@@ -65,8 +65,8 @@ fn push_event(rules: &mut Vec<Ruled>, number: u64, event: &Event) -> Result<(), 
 }
 
 /// The changes among the calls of pharmacies of these logs.
-pub(crate) fn log_rules(alloc: Global, logs: &[NodeLog]) -> Result<Vec<Ruled>, AllocError>
-    ensures { IfOk result (λ rules. map ruled_seen rules.items ≡ flat_map log_rules (logs_seen logs.now)) }
+pub(crate) fn log_rules(alloc: Global, logs: &[NodeLog]) -> Result<Vec<RuleChange>, AllocError>
+    ensures { IfOk result (λ rules. map change_seen rules.items ≡ flat_map log_rules (logs_seen logs.now)) }
 {
     let mut rules = Vec::new(alloc);
     for log in logs {
@@ -76,9 +76,9 @@ pub(crate) fn log_rules(alloc: Global, logs: &[NodeLog]) -> Result<Vec<Ruled>, A
 }
 
 /// Adds the changes among the calls of a log, if it is a pharmacy's.
-fn push_log(rules: &mut Vec<Ruled>, log: &NodeLog) -> Result<(), AllocError>
-    ensures { OnOk result (map ruled_seen rules.new.items
-        ≡ map ruled_seen rules.old.items ++ log_rules (log_seen log.now)) }
+fn push_log(rules: &mut Vec<RuleChange>, log: &NodeLog) -> Result<(), AllocError>
+    ensures { OnOk result (map change_seen rules.new.items
+        ≡ map change_seen rules.old.items ++ log_rules (log_seen log.now)) }
 {
     match log.node() {
         Node::Pharmacy(number) => push_calls(rules, u64::from(number), log.records()),
@@ -88,9 +88,13 @@ fn push_log(rules: &mut Vec<Ruled>, log: &NodeLog) -> Result<(), AllocError>
 }
 
 /// Adds the changes among the calls of a pharmacy.
-fn push_calls(rules: &mut Vec<Ruled>, pharmacy: u64, records: &[Record]) -> Result<(), AllocError>
-    ensures { OnOk result (map ruled_seen rules.new.items
-        ≡ map ruled_seen rules.old.items ++ call_rules pharmacy 1 records.now) }
+fn push_calls(
+    rules: &mut Vec<RuleChange>,
+    pharmacy: u64,
+    records: &[Record],
+) -> Result<(), AllocError>
+    ensures { OnOk result (map change_seen rules.new.items
+        ≡ map change_seen rules.old.items ++ call_rules pharmacy 1 records.now) }
 {
     for (passed, one) in records.iter().enumerate() {
         push_call(rules, pharmacy, passed as u64 + 1, one.call())?;
@@ -100,13 +104,13 @@ fn push_calls(rules: &mut Vec<Ruled>, pharmacy: u64, records: &[Record]) -> Resu
 
 /// Adds the change that a call is, if it is one.
 fn push_call(
-    rules: &mut Vec<Ruled>,
+    rules: &mut Vec<RuleChange>,
     pharmacy: u64,
     number: u64,
     call: &Call,
 ) -> Result<(), AllocError>
-    ensures { OnOk result (map ruled_seen rules.new.items
-        ≡ map ruled_seen rules.old.items ++ call_rule pharmacy number (call_seen call.now)) }
+    ensures { OnOk result (map change_seen rules.new.items
+        ≡ map change_seen rules.old.items ++ call_rule pharmacy number (call_seen call.now)) }
 {
     match call {
         Call::Retry {
@@ -127,18 +131,18 @@ fn push_call(
 
 /// Adds a change to the rule of these switches, whose numbers are two bytes each, and of these numbers.
 fn push_rule(
-    rules: &mut Vec<Ruled>,
+    rules: &mut Vec<RuleChange>,
     pharmacy: u64,
     place: u64,
     nodes: &[u8],
     again: u32,
     tries: u32,
 ) -> Result<(), AllocError>
-    ensures { OnOk result (map ruled_seen rules.new.items ≡ map ruled_seen rules.old.items
+    ensures { OnOk result (map change_seen rules.new.items ≡ map change_seen rules.old.items
         ++ record { pharmacy = pharmacy; place = place; rule = rule_in nodes.now again tries } ∷ []) }
 {
     let nodes = switch_numbers(*rules.allocator(), nodes)?;
-    rules.push(Ruled {
+    rules.push(RuleChange {
         pharmacy,
         place,
         nodes,

@@ -9,9 +9,9 @@ ghost use Rattle.table_text.specs.Adding.{Adds, AddsRows};
 ghost use Rattle.table_text.specs.Rows.{head_text};
 ghost use Rattle.table_text.specs.declared.layout.Style.TheVariants.{Csv};
 ghost use Rattle.log_audit.specs.Following.{rows_behind};
-ghost use Rattle.log_audit.specs.Rules.{event_rules, log_rules, log_rules_csv, opening_rule_of, rule_after, rule_names, rule_row, rule_rows, rule_then, rules_csv, run_rules_csv, ruled_seen, switch_name, switches_in, switches_text, told_seen};
+ghost use Rattle.log_audit.specs.Rules.{event_rules, log_rules, log_rules_csv, opening_rule_of, rule_after, rule_names, rule_row, rule_rows, rule_then, rules_csv, run_rules_csv, change_seen, switch_name, switches_in, switches_text, told_seen};
 
-use crate::rules::changes::{Ruled, event_rules, log_rules};
+use crate::rules::changes::{RuleChange, event_rules, log_rules};
 use node_log::NodeLog;
 use schedule::put_node;
 use std::alloc::{AllocError, Global};
@@ -56,9 +56,9 @@ fn rules_csv(
     alloc: Global,
     settings: &WorldSettings,
     name: &'static [u8],
-    rules: &[Ruled],
+    rules: &[RuleChange],
 ) -> Result<Vec<u8>, AllocError>
-    ensures { IfOk result (λ text. text.items ≡ rules_csv settings.now name.now (map ruled_seen rules.now)) }
+    ensures { IfOk result (λ text. text.items ≡ rules_csv settings.now name.now (map change_seen rules.now)) }
 {
     let mut out = Vec::new(alloc);
     put_names(&mut out, name)?;
@@ -90,10 +90,10 @@ fn put_rules(
     out: &mut Vec<u8>,
     settings: &WorldSettings,
     name: &'static [u8],
-    rules: &[Ruled],
+    rules: &[RuleChange],
 ) -> Result<(), AllocError>
     ensures { OnOk result (AddsRows Csv out.old out.new
-        (rows_behind (rule_rows settings.now name.now) [] (map ruled_seen rules.now))) }
+        (rows_behind (rule_rows settings.now name.now) [] (map change_seen rules.now))) }
 {
     for (place, rule) in rules.iter().enumerate() {
         put_rule(out, settings, name, &rules[..place], rule)?;
@@ -106,11 +106,11 @@ fn put_rule(
     out: &mut Vec<u8>,
     settings: &WorldSettings,
     name: &'static [u8],
-    before: &[Ruled],
-    change: &Ruled,
+    before: &[RuleChange],
+    change: &RuleChange,
 ) -> Result<(), AllocError>
     ensures { OnOk result (AddsRows Csv out.old out.new
-        (rule_rows settings.now name.now (map ruled_seen before.now) (ruled_seen change.now))) }
+        (rule_rows settings.now name.now (map change_seen before.now) (change_seen change.now))) }
 {
     let then = rule_before(settings, before, change.pharmacy);
     put_change(out, name, then, change)
@@ -122,10 +122,10 @@ fn put_change(
     out: &mut Vec<u8>,
     name: &'static [u8],
     before: Option<Told<'_>>,
-    change: &Ruled,
+    change: &RuleChange,
 ) -> Result<(), AllocError>
     ensures { OnOk result (AddsRows Csv out.old out.new
-        (rule_row name.now (option_map told_seen before.entry) (ruled_seen change.now) ∷ [])) }
+        (rule_row name.now (option_map told_seen before.entry) (change_seen change.now) ∷ [])) }
 {
     let alloc = *out.allocator();
     let from = switches_before(alloc, before)?;
@@ -200,11 +200,11 @@ fn put_more(text: &mut Vec<u8>, nodes: &[u16]) -> Result<(), AllocError>
 /// pharmacy.
 fn rule_before<'a>(
     settings: &'a WorldSettings,
-    before: &'a [Ruled],
+    before: &'a [RuleChange],
     pharmacy: u64,
 ) -> Option<Told<'a>>
     ensures { option_map told_seen result
-        ≡ rule_after pharmacy (opening_rule_of settings.now pharmacy) (map ruled_seen before.now) }
+        ≡ rule_after pharmacy (opening_rule_of settings.now pharmacy) (map change_seen before.now) }
 {
     let mut then = opening_rule_of(settings, pharmacy);
     for change in before {
@@ -214,8 +214,8 @@ fn rule_before<'a>(
 }
 
 /// Puts the rule of a change in the place of the one before, if it is one of this pharmacy.
-fn go_on<'a>(then: &mut Option<Told<'a>>, pharmacy: u64, change: &'a Ruled)
-    ensures { option_map told_seen then.new ≡ rule_then pharmacy (option_map told_seen then.old) (ruled_seen change.now) }
+fn go_on<'a>(then: &mut Option<Told<'a>>, pharmacy: u64, change: &'a RuleChange)
+    ensures { option_map told_seen then.new ≡ rule_then pharmacy (option_map told_seen then.old) (change_seen change.now) }
 {
     if change.pharmacy == pharmacy {
         *then = Some(Told {

@@ -1,10 +1,10 @@
 use Rattle.std.proofs.Common.{◌≡◌, ◌++◌, drop, map}
 use Rattle.std.specs.List.{flat_map}
 use Rattle.node_log.specs.LogSeen.{logs_seen}
-use Rattle.log_audit.specs.Rules.{ruled_seen, log_rules}
+use Rattle.log_audit.specs.Rules.{change_seen, log_rules}
 use Rattle.log_audit.proofs.rules.changes.log_rules.Given as goal
 
 -- the changes so far, and then those of the logs that are left
 abbrev pub invariant-loop-log : goal.invariant-loop-log
 invariant-loop-log l =
-    map ruled_seen l.rules.items ++ flat_map log_rules (logs_seen (drop l.log-index l.logs)) ≡ flat_map log_rules (logs_seen l.logs)
+    map change_seen l.rules.items ++ flat_map log_rules (logs_seen (drop l.log-index l.logs)) ≡ flat_map log_rules (logs_seen l.logs)
