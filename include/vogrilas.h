@@ -223,6 +223,7 @@ void vogrilas_close_settings(vogrilas_settings *settings);
 **     terms FEE COPAY        of a payer: another fee and another copay, in cents
 **     retry SWITCHES AGAIN TRIES    of a pharmacy: the switches that it tries in turn, as sw1,sw3; after how many ticks an entry is
 **                            sent again, and how often to one switch
+**     cap ENTRIES            of a switch that is stopped: how many slots its table has at most, from its next start on
 **     stop / start           the node stops, and starts again from what it keeps
 **     answer NUMBER          of a pharmacy: what is known of this entry
 **
@@ -231,7 +232,7 @@ void vogrilas_close_settings(vogrilas_settings *settings);
 **
 **     send TO TEXT           a packet for this node. `take OWN TEXT` is the line that it is there, with the sender's name
 **     number N               the call was made, and its entry has this number (submit)
-**     ok                     the call was made (tick, take, adjudicate, plan, terms, retry, stop, start)
+**     ok                     the call was made (tick, take, adjudicate, plan, terms, retry, cap, stop, start)
 **     known N                the name has an entry already, of this request and with this number: nothing has changed
 **     idle                   a tick without an open entry: nothing has changed, and there is no record
 **     answer TEXT / open / none      to the question
@@ -347,8 +348,9 @@ vogrilas_code vogrilas_calls(vogrilas_node *node, uint64_t *calls);
 vogrilas_code vogrilas_count(vogrilas_node *node, uint64_t *count);
 
 /*
-** Tells the most that vogrilas_count() can tell: the cap of the pharmacy, the switch or the payer in the settings. A node that has as
-** many entries or rows refuses what is new, a reversal too (JournalFull, BookFull); a switch forgets its oldest.
+** Tells the most that vogrilas_count() can tell: the cap of the pharmacy or the payer in the settings, or that of the switch, which
+** a line `cap ENTRIES` may have changed. A node that has as many entries or rows refuses what is new, a reversal too (JournalFull,
+** BookFull); a switch forgets its oldest.
 **
 ** VOGRILAS_OK: *most is told. VOGRILAS_UNSYNCED, VOGRILAS_CLOSED: *most is as it was, and the node too.
 */

@@ -133,7 +133,7 @@ def days_wrong(run):
         said = f"no legal days\n{node_of(log)} is a switch, and nothing is asked of switches\n"
         expect("days of others", code == 1 and out.endswith(said) and not err, f"{log}: {out}{err}")
     others = [("--alone",), ("--json",), ("--schedule",), ("--calls",)]
-    for words in (*others, *(("--csv", it) for it in ("packets", "prices", "terms", "retries"))):
+    for words in (*others, *(("--csv", it) for it in ("packets", "prices", "terms", "retries", "caps"))):
         code, out, err = audit(run.folder, logs, "--days", *words)
         refused = code == 2 and not out and re.match("claimaudit: usage: ", err)
         expect("days of others", refused, f"{words}: {code} {out}{err}")

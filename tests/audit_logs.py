@@ -70,12 +70,22 @@ def another_rule(dice, rule):
     return dice.choice([rule, (switches, *numbers), (switches, *numbers), dice.choice(NO_RULES)])
 
 
+def another_cap(dice, switch, caps):
+    """The lines of another cap of a switch, or of what it is; of a switch that may be up, and refuses it, where nothing stops it."""
+    cap = dice.choice([caps[switch], dice.randrange(1, 100), dice.choice([1, 16777216])])
+    lines = [b"cap sw%d %d" % (switch, cap)]
+    if dice.random() < 0.3:
+        return lines
+    caps[switch] = cap
+    return [b"stop sw%d" % switch, *lines, b"start sw%d" % switch]
+
+
 def with_changes(text, seed):
-    """An input between whose events the terms of payer 1 and the rules of retries of both pharmacies change, to what they are too; some changes are
-    refused."""
+    """An input between whose events the terms of payer 1, the rules of retries of both pharmacies and the caps of both switches change, to what they
+    are too; some changes are refused."""
     dice = random.Random(seed)
     head, lines = text.split(b"---\n")
-    made, terms, rules = [], (150, 1000), {1: (b"sw1,sw2", 2, 2), 2: (b"sw2", 2, 2)}
+    made, terms, rules, caps = [], (150, 1000), {1: (b"sw1,sw2", 2, 2), 2: (b"sw2", 2, 2)}, {1: 3, 2: 64}
     for line in lines.splitlines():
         if dice.random() < 0.2:
             terms = dice.choice([terms, (dice.randrange(300), dice.randrange(2000)), (100000000, 0)])
@@ -86,6 +96,9 @@ def with_changes(text, seed):
             made.append(b"retry ph%d %s %d %d" % (pharmacy, *rule))
             if rule not in NO_RULES:
                 rules[pharmacy] = rule
+        if dice.random() < 0.2:
+            switch = dice.choice([1, 2])
+            made += another_cap(dice, switch, caps)
         made.append(line)
     return head + b"---\n" + b"\n".join(made) + b"\n"
 

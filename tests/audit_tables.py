@@ -256,23 +256,25 @@ def calls(folder, logs):
 
 # What a rule of retries has, as columns name it.
 RULE = ("switches", "again", "tries")
-# The tables of changes of plans and of rules of retries: the letters of the nodes whose they are, the kinds of calls of which they tell, and their
-# columns behind the node and the place.
+# The tables of changes of plans, of rules of retries and of caps: the letters of the nodes whose they are, the kinds of calls of which they tell, and
+# their columns behind the node and the place.
 CHANGES = {
     "prices": ("pr", (5, 6), ("product", "price_before_ten_thousandths", "price_after_ten_thousandths")),
     "terms": ("pr", (9,), ("fee_before_cents", "copay_before_cents", "fee_after_cents", "copay_after_cents")),
     "retries": ("ph", (10,), tuple(f"{it}_{when}" for when in ("before", "after") for it in RULE)),
+    "caps": ("sw", (11,), ("entries_before", "entries_after")),
 }
 
 
 def changes_wanted(schedule):
-    """The rows of each table of changes, by what a schedule says of plans and rules: payer or pharmacy, event, and the other columns."""
+    """The rows of each table of changes, by what a schedule says of plans, rules and caps: the node, event, and the other columns."""
     spelled, lines = re.split("(?m)^---\n", schedule, maxsplit=1)
     settings = tomllib.loads(spelled)
     payers = dict(enumerate(settings["payer"], 1))
     prices = {(str(n), it): str(price) for n, of in payers.items() for it, price in of.get("prices", {}).items()}
     terms = {str(n): (str(of["fee"]), str(of["copay"])) for n, of in payers.items()}
     rules = {str(n): opening_rule(settings, of) for n, of in enumerate(settings["pharmacy"], 1)}
+    caps = {str(n): str(of["cap"]) for n, of in enumerate(settings["switch"], 1)}
     wanted = {name: [] for name in CHANGES}
     for event, words in enumerate((line.split(" ") for line in lines.split("\n")), 1):
         payer = words[1][2:] if words[0] in ("plan", "terms") else ""
@@ -290,6 +292,10 @@ def changes_wanted(schedule):
             pharmacy, after = words[1][2:], (words[2].replace(",", " "), *words[3:])
             wanted["retries"].append((pharmacy, str(event), *rules[pharmacy], *after))
             rules[pharmacy] = after
+        elif words[0] == "cap":
+            switch, after = words[1][2:], words[2]
+            wanted["caps"].append((switch, str(event), caps[switch], after))
+            caps[switch] = after
     return wanted
 
 

@@ -23,7 +23,7 @@ HEAD_OF_LOG, BEFORE_BODY, AROUND_BODY = 46, 16, 24
 NODES = (("ph1", "plan"), ("sw1", "plan"), ("pr1", "plan"), ("pr1", "asks"))
 SETTINGS = {"plan": networks.settings(), "asks": networks.settings(asks=True)}
 # Words by which a fuzzer changes an input, beside its bytes.
-WORDS = """submit submit-as take adjudicate tick plan stop start answer wait count row payments open at send number known refused ok idle none
+WORDS = """submit submit-as take adjudicate tick plan terms retry cap stop start answer wait count row payments open at send number known refused ok idle none
     NotAdvised ph1 sw1 pr1 network key route claims.ph1.from. PS D0B1 D0B2 _INBOX. Log-At: Log-Digest: Log-Owner: "hdrs":" "data":" "seq": follows leaves GET /metrics /healthz /readyz HTTP/1.1 200 Content-Length: Transfer-Encoding: chunked Connection: close
     wants moves ready served vouches seen stx length2 length4 http:// https:// tls:// 127.0.0.1 localhost [::1]"""
 WORDS += r" \F \G \S \\ \x01 \x00"
@@ -146,14 +146,14 @@ def records() -> Iterator[bytes]:
     ]
     yield b"\0" + "\n".join(lines_of).encode()
     packet = enveloped(1, unprinted(claims[0].encode())).decode()
-    yield b"\2" + f"take ph1 {packet}\nat 7 take ph1 {packet}\nstop\nstart".encode()
+    yield b"\2" + f"take ph1 {packet}\nat 7 take ph1 {packet}\nstop\ncap 5\nat 8 cap 16777216\nstart".encode()
     yield b"\4" + f"take sw1 {packet}\nplan 00093721410 none\nplan 00093721410 5\ntake sw1 {packet}".encode()
     yield b"\6" + f"take sw1 {packet}\nadjudicate sw1 {TEXTS['answer'].replace(' ', chr(92) + 'x20')} {packet}".encode()
     with room() as folder:
         for place, (node, settings) in enumerate(NODES):
             text, log = pathlib.Path(folder, f"{settings}.toml"), pathlib.Path(folder, f"{place}.log")
             text.write_text(SETTINGS[settings], encoding="ascii")
-            asked = [f"take {'sw1' if node == 'pr1' else 'ph1'} {packet}", "stop", "start"]
+            asked = [f"take {'sw1' if node == 'pr1' else 'ph1'} {packet}", "stop", "cap 5", "start"]
             with Served(str(text), node, str(log)) as served:
                 served.ask_all(lines_of if node == "ph1" else asked)
             yield bytes([1 + 2 * place]) + b"".join(bodies(log.read_bytes()))

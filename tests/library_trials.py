@@ -212,6 +212,9 @@ class Trials(unittest.TestCase):
             lambda: pharmacy.retry([True], 1, 1),
             lambda: pharmacy.retry([1], "1", 1),
             lambda: pharmacy.retry([1], 1, 1.5),
+            lambda: pharmacy.cap(True),
+            lambda: pharmacy.cap("1"),
+            lambda: pharmacy.cap(None),
             lambda: pharmacy.answer("1"),
             lambda: pharmacy.request(None),
             lambda: FileNode("settings", "ph1", self.folder / "other.log"),
@@ -340,6 +343,45 @@ class Trials(unittest.TestCase):
         pharmacy.close()
         again = self.opened("ph1", settings)
         self.assertEqual([[packet.to for packet in again.tick().sent] for _ in range(3)], [[], [], ["sw2"]])
+
+    def test_caps_of_switches(self):
+        pharmacy, switch, payer = (self.opened(name) for name in ("ph1", "sw1", "pr1"))
+        asked = [pharmacy.submit(REQUEST).sent[0].data for _ in range(2)]
+
+        def refused(name, call, *given):
+            with self.subTest(given), self.assertRaises(Refused) as caught:
+                call(*given)
+            self.assertEqual(caught.exception.name, name)
+
+        refused("AlreadyUp", switch.cap, 1)
+        self.assertEqual(switch.most, 64)
+        sent = [switch.take("ph1", packet).sent[0] for packet in asked]
+        self.assertEqual(([packet.to for packet in sent], switch.count), (["pr1", "pr1"], 2))
+        answers = [payer.take("sw1", packet.data).sent[0].data for packet in sent]
+        switch.stop()
+        for entries in (0, -1, 16_777_217, 1 << 32, (1 << 32) + 1):
+            refused("Line", switch.cap, entries)
+        self.assertEqual((switch.cap(16_777_216), switch.most), (vogrilas.Said(()), 16_777_216))
+        self.assertEqual((switch.cap(1), switch.most), (vogrilas.Said(()), 1))
+        switch.start()
+        for packet in asked:
+            switch.take("ph1", packet)
+        # A table of one slot has forgotten the older request.
+        self.assertEqual((switch.count, switch.most), (1, 1))
+        refused("NotWaiting", switch.take, "pr1", answers[0])
+        self.assertEqual(switch.take("pr1", answers[1]).sent[0].to, "ph1")
+        switch.close()
+        again = self.opened("sw1")
+        self.assertEqual((again.count, again.most, again.calls), (1, 1, 9))
+        again.stop()
+        again.start()
+        for packet in asked:
+            again.take("ph1", packet)
+        self.assertEqual(again.count, 1)
+        for node in (pharmacy, payer):
+            refused("NoSuchNode", node.cap, 1)
+            node.stop()
+            refused("NoSuchNode", node.cap, 1)
 
     def test_one_process_has_the_log(self):
         self.opened("ph1")

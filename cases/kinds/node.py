@@ -1,5 +1,5 @@
 """One node as a process, step by step: a pharmacy, one whose rule of retries changes, a payer's book over many prescriptions, a payer that asks, one
-whose terms change, and a switch's table beside a plain list."""
+whose terms change, a switch's table beside a plain list, and one whose cap changes."""
 import json
 from collections.abc import Callable
 
@@ -36,14 +36,14 @@ def packet_of(kind: int, pharmacy: int, number: int, text: bytes) -> bytes:
 
 
 class Node:
-    """One node of the usual settings, some of them otherwise, in a folder of its own."""
+    """One node of the usual settings, some of them otherwise, in a folder of its own, with a log or without."""
 
-    def __init__(self, name: str, **terms: int | str):
+    def __init__(self, name: str, has_log: bool = True, **terms: int | str):
         self.folder = room()
         self.settings = f"{self.folder.name}/settings.toml"
         with open(self.settings, "w", encoding="ascii") as file:
             file.write(SETTINGS.format(**(USUAL | terms)))
-        self.served = Served(self.settings, name, f"{self.folder.name}/{name}.log")
+        self.served = Served(self.settings, name, f"{self.folder.name}/{name}.log" if has_log else None)
 
     def ask(self, line: str) -> Answer:
         return self.served.ask(line)
@@ -55,12 +55,17 @@ class Node:
             said += self.served.ask_all(lines[at : at + FEW])
         return said
 
+    def again(self) -> str:
+        """What claimnode says where its process has ended and begins anew."""
+        self.served.end()
+        self.served = Served(self.settings, self.served.node, self.served.log)
+        return self.served.ready
+
     def turn(self) -> str:
         """What claimnode says where it closes the log; the node goes on in the new one."""
-        name, log = self.served.node, self.served.log
         self.served.end()
-        ran = run("claimnode", "--turn", self.settings, name, log, given=b"")
-        self.served = Served(self.settings, name, log)
+        ran = run("claimnode", "--turn", self.settings, self.served.node, self.served.log, given=b"")
+        self.again()
         return " ".join((ran.out + ran.err).decode().replace(f"{self.folder.name}/", "").split())
 
     def end(self) -> None:
@@ -74,9 +79,9 @@ class Steps:
     def __init__(self):
         self.node: Node | None = None
 
-    def open(self, name: str, **terms: int | str) -> None:
+    def open(self, name: str, has_log: bool = True, **terms: int | str) -> None:
         self.end()
-        self.node = Node(name, **terms)
+        self.node = Node(name, has_log, **terms)
 
     def end(self) -> None:
         if self.node:
@@ -295,9 +300,13 @@ class Table(Steps):
     """Switch 1 and a plain list, which are handed the same random packets."""
 
     def tell(self, word: str, argument: bytes) -> str:
-        """How they fare over so many turns."""
+        """What a row comes to."""
         cap, turns = map(int, argument.split(b" "))
         self.open("sw1", table=cap)
+        return self.against_list(cap, turns)
+
+    def against_list(self, cap: int, turns: int) -> str:
+        """How they fare over so many turns, where the table is empty and has this cap."""
         plain, dice, counts = PlainTable(cap), Dice(20_240_115), dict.fromkeys(COUNTED, 0)
         lines, wanted = [], []
         for _ in range(turns):
@@ -330,6 +339,36 @@ class Table(Steps):
         return [(to, packet)], "ok"
 
 
+class Capped(Table):
+    """Switch 1, whose cap changes; `node` has another node in its place."""
+
+    def tell(self, word: str, argument: bytes) -> str:
+        """What a row comes to."""
+        if word in ("switch", "diskless"):
+            self.open("sw1", word == "switch", table=int(argument))
+            return "ok"
+        if word == "node":
+            self.open(argument.decode())
+            return "ok"
+        if word == "again":
+            return self.node.again()
+        if word == "turn":
+            return self.node.turn()
+        if word == "against-list":
+            return self.against_list(*map(int, argument.split(b" ")))
+        if word == "request":
+            return self.goes("ph1", packet_of(REQUEST, 1, int(argument), REQUESTS[0]))
+        if word == "response":
+            return self.goes("pr1", packet_of(ANSWER, 1, int(argument), ANSWERS[0]))
+        line = argument.decode("latin-1")
+        return self.node.ask(line if word == "line" else f"{word} {line}".rstrip()).last
+
+    def goes(self, sender: str, packet: bytes) -> str:
+        """To whom the switch sends something where it takes a packet."""
+        said = self.node.served.take(sender, packet)
+        return said.sent[0][0] if said.last == "ok" and len(said.sent) == 1 else said.last
+
+
 SUBJECTS: dict[str, Callable[[], Steps]] = {
     "journal": Journal,
     "retry": Journal,
@@ -337,6 +376,7 @@ SUBJECTS: dict[str, Callable[[], Steps]] = {
     "advised": Asking,
     "terms": Asking,
     "switch_table": Table,
+    "cap": Capped,
 }
 
 

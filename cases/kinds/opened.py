@@ -3,7 +3,7 @@ import os
 import struct
 
 from suite.case import Case, Group, rows_apart
-from suite.logs import DROP, STOP, TERMS, TICK, Call, Log, Sent, head_of, head_of_file, text, write_log
+from suite.logs import CAP, DROP, STOP, TERMS, TICK, Call, Log, Sent, head_of, head_of_file, text, write_log
 from suite.nodes import room
 from suite.programs import run
 from suite.rows import read_rows
@@ -19,6 +19,7 @@ HEAD = head_of("ph1", SETTINGS)
 HEADS = {"first": head_of_file("ph1", SETTINGS), "second": HEAD}
 # A tick of a pharmacy that has no entry sends nothing; its record, which earlier versions made, has 33 bytes.
 QUIET = Call(TICK, b"", ())
+STOPPED = Call(STOP, b"", ())
 TICKS = 3
 MOST_SETTINGS = 1 << 24
 RECORD = 33
@@ -50,7 +51,7 @@ def edited(text: str) -> bytes:
 
 def went_on(head: bytes, settings: bytes) -> str:
     """What pharmacy 1 says under settings that starts from a log of this head, ticks and stops, where its log then has the stop and no tick more."""
-    before, after = (write_log(Log(head, (QUIET,) * TICKS + more)) for more in ((), (Call(STOP, b"", ()),)))
+    before, after = (write_log(Log(head, (QUIET,) * TICKS + more)) for more in ((), (STOPPED,)))
     with room() as folder:
         paths = f"{folder}/settings.toml", f"{folder}/ph1.log"
         for path, given in zip(paths, (settings, before)):
@@ -64,9 +65,9 @@ def went_on(head: bytes, settings: bytes) -> str:
     return ran.err.decode().strip().removeprefix("claimnode: ") if ran.status else " ".join(ran.out.decode().split())
 
 
-def payer_log(*calls: Call) -> bytes:
-    """The log of payer 1 that has these calls."""
-    return write_log(Log(head_of("pr1", SETTINGS), calls))
+def log_of(node: str, *calls: Call) -> bytes:
+    """The log of a node that has these calls."""
+    return write_log(Log(head_of(node, SETTINGS), calls))
 
 
 def terms(fee: int, copay: int) -> Call:
@@ -74,17 +75,22 @@ def terms(fee: int, copay: int) -> Call:
     return Call(TERMS, struct.pack(">II", fee, copay), ())
 
 
-def kept_terms(fee: int, copay: int) -> str:
-    """What payer 1 says to other terms, where its log then has that call alone, and behind it at a start from there."""
+def capped(entries: int) -> Call:
+    """The call to have another cap."""
+    return Call(CAP, struct.pack(">I", entries), ())
+
+
+def kept(node: str, lines: bytes, *calls: Call) -> str:
+    """What a node says to lines, where its log then has these calls alone, and behind it at a start from there."""
     with room() as folder:
-        paths = f"{folder}/settings.toml", f"{folder}/pr1.log"
+        paths = f"{folder}/settings.toml", f"{folder}/{node}.log"
         with open(paths[0], "wb") as file:
             file.write(SETTINGS)
-        ran = run("claimnode", paths[0], "pr1", paths[1], given=b"terms %d %d\n" % (fee, copay))
+        ran = run("claimnode", paths[0], node, paths[1], given=lines)
         with open(paths[1], "rb") as file:
             left = file.read()
-        again = run("claimnode", paths[0], "pr1", paths[1], given=b"")
-    return " ".join((ran.out + again.out).decode().split()) if left == payer_log(terms(fee, copay)) else "another log"
+        again = run("claimnode", paths[0], node, paths[1], given=b"")
+    return " ".join((ran.out + again.out).decode().split()) if left == log_of(node, *calls) else "another log"
 
 
 def beside(octets: bytes, starts: int) -> str:
@@ -164,11 +170,17 @@ def tell(word: str, argument: bytes) -> str:
     if word == "sums-of-other":
         return start(under_other_head(argument.decode()))
     if word == "payer-kept":
-        return kept_terms(*map(int, argument.split()))
+        return kept("pr1", b"terms %b\n" % argument, terms(*map(int, argument.split())))
     if word == "payer-terms":
-        return start(payer_log(terms(*map(int, argument.split()))), node="pr1")
+        return start(log_of("pr1", terms(*map(int, argument.split()))), node="pr1")
     if word == "payer-call":
-        return start(payer_log(Call(argument[0], argument[1:], ())), node="pr1")
+        return start(log_of("pr1", Call(argument[0], argument[1:], ())), node="pr1")
+    if word == "switch-kept":
+        return kept("sw1", b"stop\ncap %b\n" % argument, STOPPED, capped(int(argument)))
+    if word == "switch-call":
+        return start(log_of("sw1", STOPPED, Call(argument[0], argument[1:], ())), node="sw1")
+    if word == "switch-up":
+        return start(log_of("sw1", Call(argument[0], argument[1:], ())), node="sw1")
     if word == "words":
         return str(run("claimnode", *argument.decode().split(" "), "/dev/null", "ph1", "/dev/null", given=b"").status)
     count = int(argument or b"0")

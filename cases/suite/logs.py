@@ -13,6 +13,8 @@ SUBMIT, TICK, TAKE, STOP, START, DROP, PRICE = range(7)
 ADVISED = 8
 # Another fee and another copay.
 TERMS = 9
+# Another cap of a switch.
+CAP = 11
 # What stands before a call of which something was noted.
 NOTED = 7
 

@@ -45,12 +45,12 @@ class Answer(NamedTuple):
 
 
 class Served:
-    """A node that is served from its log until this ends."""
+    """A node that is served from its log until this ends; a switch also without one."""
 
-    def __init__(self, settings: str, node: str, log: str):
+    def __init__(self, settings: str, node: str, log: str | None):
         self.node, self.log = node, log
         self.process = subprocess.Popen(
-            ["claimnode", settings, node, log],
+            ["claimnode", settings, node, *([log] if log else [])],
             executable=program("claimnode"),
             env=environment(),
             stdin=subprocess.PIPE,

@@ -6,8 +6,8 @@
 /* The node's thread is thought to live where it was heard of so lately. */
 #define LIVES_SECONDS 10
 
-static const char *const call_name[CALLS] = { "submit", "answer", "take", "adjudicate", "tick", "plan", "terms", "retry", "stop", "start",
-                                             "other" };
+static const char *const call_name[CALLS] = { "submit", "answer", "take", "adjudicate", "tick", "plan", "terms", "retry", "cap",
+                                             "stop", "start", "other" };
 static const char *const why_name[WHYS] = { "not_a_packet", "held_back", "full", "reply", "would_be_full", "under_way", "rules_full",
                                              "unsigned", "forged", "wrong_payer", "unasked", "rerouted" };
 

@@ -12,8 +12,8 @@ struct counts;
 enum why { NOT_A_PACKET, HELD_BACK, FULL, NO_INBOX, WOULD_BE_FULL, UNDER_WAY, RULES_FULL, UNSIGNED, FORGED, WRONG_PAYER, UNASKED,
            REROUTED, WHYS };
 
-enum call { CALL_SUBMIT, CALL_ANSWER, CALL_TAKE, CALL_ADJUDICATE, CALL_TICK, CALL_PLAN, CALL_TERMS, CALL_RETRY, CALL_STOP, CALL_START,
-            CALL_OTHER, CALLS };
+enum call { CALL_SUBMIT, CALL_ANSWER, CALL_TAKE, CALL_ADJUDICATE, CALL_TICK, CALL_PLAN, CALL_TERMS, CALL_RETRY, CALL_CAP, CALL_STOP,
+            CALL_START, CALL_OTHER, CALLS };
 
 /* What a node of a range is counted by, and whose the calling thread counts from now on: that node's, or with NULL those of a node that is alone
    in its process, which is how each thread begins. */

@@ -118,7 +118,8 @@ void node_serve(struct served *node, const char *line, size_t size) {
 
 /* Whether a line begins as a call; all else is a question, or asks nothing. */
 static bool is_call(const char *line, size_t size) {
-    static const char *const word[] = { "submit", "submit-as", "take", "adjudicate", "tick", "plan", "terms", "retry", "stop", "start" };
+    static const char *const word[] = { "submit", "submit-as", "take", "adjudicate", "tick", "plan",
+                                        "terms",  "retry",     "cap",  "stop",       "start" };
     const char *space = size == 0 ? NULL : memchr(line, ' ', size);
     size_t length = space == NULL ? size : (size_t)(space - line);
     for (size_t at = 0; at < sizeof word / sizeof *word; at++)

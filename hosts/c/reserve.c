@@ -67,6 +67,8 @@ void reserve_count(struct host *host) {
     /* Without a call the rows are what they were, and what stops keeps them: it is asked again once it is up. */
     if (calls != host->rows_calls && !is_switch && !node_is_up(&host->node)) return;
     if (calls != host->rows_calls) host->rows = node_count(&host->node);
+    /* A switch may have got another cap. */
+    if (calls != host->rows_calls && is_switch) counts_most(host->most = node_most(&host->node), 0);
     host->rows_calls = calls;
     host->served_since = 0;
 }

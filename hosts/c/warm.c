@@ -81,8 +81,8 @@ static void add_rule(struct bytes *line, struct body *body) {
 /* Adds the line of a call, of this kind and under this name, where it has one. */
 static void add_call(struct bytes *line, uint64_t kind, const struct bytes *name, struct body *body) {
     static const char *const word[] = { "submit ", "tick", "take ",       "stop",  "start", "plan ",
-                                        "plan ",   NULL,   "adjudicate ", "terms", "retry " };
-    enum { SUBMIT = 0, TAKE = 2, DROP = 5, PRICE = 6, ADJUDICATE = 8, TERMS = 9, RETRY = 10 };
+                                        "plan ",   NULL,   "adjudicate ", "terms", "retry ", "cap" };
+    enum { SUBMIT = 0, TAKE = 2, DROP = 5, PRICE = 6, ADJUDICATE = 8, TERMS = 9, RETRY = 10, CAP = 11 };
     if (kind >= sizeof word / sizeof *word || word[kind] == NULL) return;
     if (name->size > 0) add_form(line, "submit-as %s ", name->at);
     else add_text(line, word[kind]);
@@ -90,7 +90,7 @@ static void add_call(struct bytes *line, uint64_t kind, const struct bytes *name
     if (kind == ADJUDICATE) add_advised(line, body);
     if (kind == SUBMIT || kind == TAKE || kind == DROP || kind == PRICE) add_taken(line, body);
     if (kind == DROP) add_text(line, " none");
-    if (kind == PRICE) add_form(line, " %llu", (unsigned long long)take_number(body, 4));
+    if (kind == PRICE || kind == CAP) add_form(line, " %llu", (unsigned long long)take_number(body, 4));
     if (kind == RETRY) add_rule(line, body);
     for (int amounts = 0; kind == TERMS && amounts < 2; amounts++) add_form(line, " %llu", (unsigned long long)take_number(body, 4));
 }

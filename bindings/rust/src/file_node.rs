@@ -133,6 +133,11 @@ impl FileNode {
         self.turn(|node| node.serve(format!("retry {} {again} {tries}", names.join(",")).as_bytes()))
     }
 
+    /// Another cap: how many requests the table has at most, from the next start on. Of a switch that is stopped.
+    pub fn cap(&mut self, entries: u32) -> Result<Said, FileError> {
+        self.turn(|node| node.serve(format!("cap {entries}").as_bytes()))
+    }
+
     /// The node stops: it refuses calls until it starts.
     pub fn stop(&mut self) -> Result<Said, FileError> {
         self.turn(|node| node.serve(b"stop"))
@@ -171,7 +176,7 @@ impl FileNode {
         Ok(self.node()?.count()?)
     }
 
-    /// The most that `count` can be: the cap in the settings.
+    /// The most that `count` can be: the cap in the settings, or of a switch that which `cap` gave it.
     pub fn most(&self) -> Result<u64, FileError> {
         Ok(self.node()?.most()?)
     }

@@ -239,7 +239,7 @@ impl Node {
         Ok(count)
     }
 
-    /// The most that `count` can be: the cap of the pharmacy, switch or payer in the settings.
+    /// The most that `count` can be: the cap of the pharmacy or payer in the settings, or that of the switch, which may change.
     ///
     /// # Errors
     /// `Unsynced` until all is on disk; `Closed`. The node is as it was.

@@ -94,6 +94,44 @@ fn rules_of_retries_change() {
 }
 
 #[test]
+fn caps_of_switches_change() {
+    let folder = Folder::new("caps");
+    let mut pharmacy = folder.open("ph1").unwrap();
+    let asked: Vec<Vec<u8>> = (0..2).map(|_| pharmacy.submit(&request()).unwrap().sent.remove(0).data).collect();
+    let mut switch = folder.open("sw1").unwrap();
+    let Err(FileError::Refused(Refused(name))) = switch.cap(1) else { panic!("a switch that is up") };
+    assert_eq!((name.as_str(), switch.most().unwrap()), ("AlreadyUp", 64));
+    switch.stop().unwrap();
+    for entries in [0, 16_777_217, u32::MAX] {
+        let Err(FileError::Refused(Refused(name))) = switch.cap(entries) else { panic!("no cap") };
+        assert_eq!(name, "Line");
+    }
+    assert_eq!((switch.cap(16_777_216).unwrap(), switch.cap(1).unwrap()), Default::default());
+    switch.start().unwrap();
+    for packet in &asked {
+        assert_eq!(switch.take("ph1", packet).unwrap().sent[0].to, "pr1");
+    }
+    // A table of one slot has forgotten the older request.
+    assert_eq!((switch.count().unwrap(), switch.most().unwrap()), (1, 1));
+    drop(switch);
+    let mut again = folder.open("sw1").unwrap();
+    // A stop, two caps, a start and two packets.
+    assert_eq!((again.count().unwrap(), again.most().unwrap(), again.calls().unwrap()), (1, 1, 6));
+    assert_eq!((again.stop().unwrap(), again.start().unwrap()), Default::default());
+    for packet in &asked {
+        again.take("ph1", packet).unwrap();
+    }
+    assert_eq!(again.count().unwrap(), 1);
+    for mut node in [pharmacy, folder.open("pr1").unwrap()] {
+        let Err(FileError::Refused(Refused(name))) = node.cap(1) else { panic!("no switch") };
+        assert_eq!(name, "NoSuchNode");
+        node.stop().unwrap();
+        let Err(FileError::Refused(Refused(name))) = node.cap(1) else { panic!("no switch that is stopped") };
+        assert_eq!(name, "NoSuchNode");
+    }
+}
+
+#[test]
 fn torn_and_removed_logs_are_kept() {
     let folder = Folder::new("torn");
     folder.open("ph1").unwrap().submit(&request()).unwrap();

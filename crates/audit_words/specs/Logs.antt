@@ -2,8 +2,8 @@
 use Rattle.std.specs.Prelude.{ℕ, Bool, List, [], ◌∷◌, ◌++◌, Option, Some, None, option_map, bytes_eq, codes, find, if◌then◌else◌}
 use Rattle.clap.specs.Words.{first_value}
 use Rattle.clap.specs.declared.parser.matches.Found.{Found}
-use Rattle.log_audit.specs.declared.plans.tables.Changes.{Changes as Changing}
-use Rattle.log_audit.specs.declared.plans.tables.Changes.TheVariants.{Prices, Terms, Retries}
+use Rattle.log_audit.specs.declared.revisions.tables.Changes.{Changes as Changing}
+use Rattle.log_audit.specs.declared.revisions.tables.Changes.TheVariants.{Prices, Terms, Retries, Caps}
 use Rattle.log_audit.specs.declared.report.Form.{Form}
 use Rattle.log_audit.specs.declared.report.Form.TheVariants.{Json, Csv, Changes, Schedule}
 use Rattle.log_audit.specs.declared.tables.table.Table.{Table}
@@ -20,10 +20,13 @@ abbrev pub judged : Scope → Form → Asked
 judged scope form = Verdict (record { scope = scope; form = form })
 
 -- the forms that are tables, by their names: of each log by itself and of days the entries without an answer too, and of a run its packets; changes
--- of plans and of rules are not told of days
+-- are not told of days
+abbrev pub all_changes : List (List ℕ × Form)
+all_changes = (codes "prices", Changes Prices) ∷ (codes "terms", Changes Terms) ∷ (codes "retries", Changes Retries) ∷ (codes "caps", Changes Caps) ∷ []
+
 abbrev pub change_forms : Scope → List (List ℕ × Form)
-change_forms Run = (codes "prices", Changes Prices) ∷ (codes "terms", Changes Terms) ∷ (codes "retries", Changes Retries) ∷ []
-change_forms Each = (codes "prices", Changes Prices) ∷ (codes "terms", Changes Terms) ∷ (codes "retries", Changes Retries) ∷ []
+change_forms Run = all_changes
+change_forms Each = all_changes
 change_forms Days = []
 
 abbrev pub last_form : Scope → List ℕ × Form
@@ -88,12 +91,13 @@ table_named scope name =
     if bytes_eq name (codes "rows") then Some Rows else
     if bytes_eq name (codes "counted") then Some Counted else last_table scope name
 
--- changes of plans or of rules, where this is their name and they are told in the scope
+-- changes, where this is their name and they are told in the scope
 abbrev pub changes_named : List ℕ → Option Changing
 changes_named name =
     if bytes_eq name (codes "prices") then Some Prices else
     if bytes_eq name (codes "terms") then Some Terms else
-    if bytes_eq name (codes "retries") then Some Retries else None
+    if bytes_eq name (codes "retries") then Some Retries else
+    if bytes_eq name (codes "caps") then Some Caps else None
 
 abbrev pub changes_in : Scope → List ℕ → Option Changing
 changes_in Run name = changes_named name

@@ -129,6 +129,9 @@ fn changes_named(name: &[u8]) -> Option<Changes>
     if name == b"retries".as_slice() {
         return Some(Changes::Retries);
     }
+    if name == b"caps".as_slice() {
+        return Some(Changes::Caps);
+    }
     None
 }
 

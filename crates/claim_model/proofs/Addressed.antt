@@ -11,7 +11,7 @@ use Rattle.claim_model.specs.Rows.{Book}
 use Rattle.claim_model.specs.Book.{answered, unadvised}
 use Rattle.claim_model.specs.Journal.{Journal, JournalAtRest, Sending, submitted, ticked, due, heard, stopped, started, is_rule, with_rule, ruled_anew}
 use Rattle.claim_model.specs.Table.{Slot, Table, Back, Requested, slot_of, routed_by, requested_again, requested_by, requested_readable, requested, Responded, responded_with, responded_by, responded_readable, responded}
-use Rattle.claim_model.specs.Node.{Node, Pharmacy, Switch, Payer, Power, Up, AtRest, Sent, Call, Submit, Tick, Take, Stop, Start, Revise, OfPlan, OfRule, Adjudicate, Done, to_switch, pharmacy_takes, pharmacy_step, to_payer_or_back, after_request, after_response, switch_takes, switch_step, after_answer, payer_takes, advice_in, after_reprice, payer_step}
+use Rattle.claim_model.specs.Node.{Node, Pharmacy, Switch, Payer, Power, Up, AtRest, Sent, Call, Submit, Tick, Take, Stop, Start, Revise, OfPlan, OfRule, OfCap, Adjudicate, Done, to_switch, pharmacy_takes, pharmacy_step, to_payer_or_back, after_request, after_response, switch_takes, switch_step, after_answer, payer_takes, advice_in, after_reprice, payer_step}
 use Rattle.claim_model.specs.World.{World, Packet}
 use Rattle.claim_model.specs.Settings.{WorldSettings}
 use Rattle.claim_model.specs.Held.{journal_in, asked, decided}
@@ -121,6 +121,7 @@ pharmacy_sends ctx given n (Up j) next (Revise (OfRule rule)) out h g p e =
     let some : 0 < length rule.nodes =
     subst (λ (q : JournalAtRest). 0 < length q.rule.nodes) (ruled_same rule j) (subst (λ y. 0 < length (journal_in y).rule.nodes) (sym d.1) g.some) in
     sends_at ctx given n (Up (ruled_anew rule j)) next [] out d.1 d.2 (record { phases = started_phases (with_rule rule (stopped j)) some; sends = tt })
+pharmacy_sends ctx given n (Up j) next (Revise (OfCap most)) out h g p e = absurd cc
 pharmacy_sends ctx given n (Up j) next (Adjudicate from bytes advice) out h g p e = absurd cc
 pharmacy_sends ctx given n (AtRest j) next (Submit text) out h g p e = absurd cc
 pharmacy_sends ctx given n (AtRest j) next Tick out h g p e = absurd cc
@@ -128,6 +129,7 @@ pharmacy_sends ctx given n (AtRest j) next (Take from bytes) out h g p e = absur
 pharmacy_sends ctx given n (AtRest j) next Stop out h g p e = absurd cc
 pharmacy_sends ctx given n (AtRest j) next (Revise (OfPlan change)) out h g p e = absurd cc
 pharmacy_sends ctx given n (AtRest j) next (Revise (OfRule rule)) out h g p e = absurd cc
+pharmacy_sends ctx given n (AtRest j) next (Revise (OfCap most)) out h g p e = absurd cc
 pharmacy_sends ctx given n (AtRest j) next (Adjudicate from bytes advice) out h g p e = absurd cc
 
 -- switches send to the routed payer, or to the pharmacy of the id
@@ -242,7 +244,9 @@ switch_sends ctx given w m (AtRest cap) next (Submit text) out laws x there all 
 switch_sends ctx given w m (AtRest cap) next Tick out laws x there all c e = absurd cc
 switch_sends ctx given w m (AtRest cap) next (Take from bytes) out laws x there all c e = absurd cc
 switch_sends ctx given w m (AtRest cap) next Stop out laws x there all c e = absurd cc
-switch_sends ctx given w m (AtRest cap) next (Revise change) out laws x there all c e = absurd cc
+switch_sends ctx given w m (AtRest cap) next (Revise (OfPlan change)) out laws x there all c e = absurd cc
+switch_sends ctx given w m (AtRest cap) next (Revise (OfRule rule)) out laws x there all c e = absurd cc
+switch_sends ctx given w m (AtRest cap) next (Revise (OfCap most)) out laws x there all c e = subst (AllByRecursion (SentWell ctx given (Switch m))) (done_same (AtRest most) next [] out e).1 tt
 switch_sends ctx given w m (AtRest cap) next (Adjudicate from bytes advice) out laws x there all c e = absurd cc
 
 -- payers answer the switch that asked
@@ -273,6 +277,7 @@ payer_sends ctx given w n (Up b) next (Adjudicate from bytes advice) out laws c 
 payer_sends ctx given w n (Up b) next Stop out laws c for_it e = subst (AllByRecursion (SentWell ctx given (Payer n))) (done_same (AtRest b) next [] out e).1 tt
 payer_sends ctx given w n (Up b) next (Revise (OfPlan change)) out laws c for_it e = repriced_out ctx given n b (ctx.reprice b.plan change) next out e
 payer_sends ctx given w n (Up b) next (Revise (OfRule rule)) out laws c for_it e = absurd cc
+payer_sends ctx given w n (Up b) next (Revise (OfCap most)) out laws c for_it e = absurd cc
 payer_sends ctx given w n (AtRest b) next Start out laws c for_it e = subst (AllByRecursion (SentWell ctx given (Payer n))) (done_same (Up b) next [] out e).1 tt
 payer_sends ctx given w n (Up b) next (Submit text) out laws c for_it e = absurd cc
 payer_sends ctx given w n (Up b) next Tick out laws c for_it e = absurd cc
@@ -283,4 +288,5 @@ payer_sends ctx given w n (AtRest b) next (Take from bytes) out laws c for_it e 
 payer_sends ctx given w n (AtRest b) next Stop out laws c for_it e = absurd cc
 payer_sends ctx given w n (AtRest b) next (Revise (OfPlan change)) out laws c for_it e = absurd cc
 payer_sends ctx given w n (AtRest b) next (Revise (OfRule rule)) out laws c for_it e = absurd cc
+payer_sends ctx given w n (AtRest b) next (Revise (OfCap most)) out laws c for_it e = absurd cc
 payer_sends ctx given w n (AtRest b) next (Adjudicate from bytes advice) out laws c for_it e = absurd cc

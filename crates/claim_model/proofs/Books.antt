@@ -6,7 +6,7 @@ use Rattle.claim_model.specs.Readable.{is_request}
 use Rattle.claim_model.specs.Numbered.{numbered}
 use Rattle.claim_model.specs.Rows.{Row, BookSettings, Book, ruled_rows}
 use Rattle.claim_model.specs.Book.{new_row, unadvised, Answered, answered}
-use Rattle.claim_model.specs.Node.{Node, Power, Up, AtRest, Sent, Call, Submit, Tick, Take, Stop, Start, Revise, OfPlan, OfRule, Adjudicate, Outcome, Done, Refused, after_answer, payer_takes, advice_in, after_reprice, payer_step}
+use Rattle.claim_model.specs.Node.{Node, Power, Up, AtRest, Sent, Call, Submit, Tick, Take, Stop, Start, Revise, OfPlan, OfRule, OfCap, Adjudicate, Outcome, Done, Refused, after_answer, payer_takes, advice_in, after_reprice, payer_step}
 use Rattle.claim_model.specs.World.{World, Event, step, world_after, run}
 use Rattle.claim_model.specs.Settings.{WorldSettings, opening}
 use Rattle.claim_model.specs.Held.{book_in}
@@ -50,6 +50,7 @@ payer_moves ctx (Up b) next (Adjudicate from bytes advice) sent e =
 payer_moves ctx (Up b) next Stop sent e = same_book ctx b (book_in next) (ap book_in (sym (done_same (AtRest b) next [] sent e).0))
 payer_moves ctx (Up b) next (Revise (OfPlan change)) sent e = reprice_move ctx b (ctx.reprice b.plan change) next sent e
 payer_moves ctx (Up b) next (Revise (OfRule rule)) sent e = absurd cc
+payer_moves ctx (Up b) next (Revise (OfCap most)) sent e = absurd cc
 payer_moves ctx (AtRest b) next Start sent e = same_book ctx b (book_in next) (ap book_in (sym (done_same (Up b) next [] sent e).0))
 payer_moves ctx (Up b) next (Submit text) sent e = absurd cc
 payer_moves ctx (Up b) next Tick sent e = absurd cc
@@ -60,6 +61,7 @@ payer_moves ctx (AtRest b) next (Take from bytes) sent e = absurd cc
 payer_moves ctx (AtRest b) next Stop sent e = absurd cc
 payer_moves ctx (AtRest b) next (Revise (OfPlan change)) sent e = absurd cc
 payer_moves ctx (AtRest b) next (Revise (OfRule rule)) sent e = absurd cc
+payer_moves ctx (AtRest b) next (Revise (OfCap most)) sent e = absurd cc
 payer_moves ctx (AtRest b) next (Adjudicate from bytes advice) sent e = absurd cc
 
 -- the ledger of a book

@@ -12,7 +12,7 @@ use Rattle.claim_model.specs.Numbered.{numbered}
 use Rattle.claim_model.specs.Judgement.{Verdict, verdict_in}
 use Rattle.claim_model.specs.Rows.{Row, BookSettings, Book, ruled_rows}
 use Rattle.claim_model.specs.Book.{serial_fits, row_of, new_row, has_verdicts, unadvised, Answered, entered_row, answered_by, answered_readable, answered}
-use Rattle.claim_model.specs.Node.{Node, Power, Up, AtRest, Sent, Call, Submit, Tick, Take, Stop, Start, Revise, OfPlan, OfRule, Adjudicate, Outcome, Done, Refused, after_answer, payer_takes, advice_in, after_reprice, payer_step}
+use Rattle.claim_model.specs.Node.{Node, Power, Up, AtRest, Sent, Call, Submit, Tick, Take, Stop, Start, Revise, OfPlan, OfRule, OfCap, Adjudicate, Outcome, Done, Refused, after_answer, payer_takes, advice_in, after_reprice, payer_step}
 use Rattle.claim_model.specs.World.{World}
 use Rattle.claim_model.specs.Settings.{WorldSettings, Accepts}
 use Rattle.claim_model.specs.Held.{book_in, asked, row_at, decided}
@@ -246,6 +246,7 @@ payer_sound ctx given w n (Up b) next Stop sent laws accepts x is c e =
     moved_payer ctx given w n (AtRest b) next [] sent d.0 d.1 (quiet_payer ctx given w n (Up b) (AtRest b) x is refl refl refl)
 payer_sound ctx given w n (Up b) next (Revise (OfPlan change)) sent laws accepts x is c e = repriced ctx given w n b next sent (ctx.reprice b.plan change) x is e
 payer_sound ctx given w n (Up b) next (Revise (OfRule rule)) sent laws accepts x is c e = absurd cc
+payer_sound ctx given w n (Up b) next (Revise (OfCap most)) sent laws accepts x is c e = absurd cc
 payer_sound ctx given w n (AtRest b) next Start sent laws accepts x is c e =
     let d = done_same (Up b) next [] sent e in
     moved_payer ctx given w n (Up b) next [] sent d.0 d.1 (quiet_payer ctx given w n (AtRest b) (Up b) x is refl refl refl)
@@ -258,4 +259,5 @@ payer_sound ctx given w n (AtRest b) next (Take from bytes) sent laws accepts x 
 payer_sound ctx given w n (AtRest b) next Stop sent laws accepts x is c e = absurd cc
 payer_sound ctx given w n (AtRest b) next (Revise (OfPlan change)) sent laws accepts x is c e = absurd cc
 payer_sound ctx given w n (AtRest b) next (Revise (OfRule rule)) sent laws accepts x is c e = absurd cc
+payer_sound ctx given w n (AtRest b) next (Revise (OfCap most)) sent laws accepts x is c e = absurd cc
 payer_sound ctx given w n (AtRest b) next (Adjudicate from bytes advice) sent laws accepts x is c e = absurd cc

@@ -9,7 +9,7 @@ use Rattle.claim_model.specs.Readable.{request_envelope}
 use Rattle.claim_model.specs.Refusal.{Refusal, BadRule}
 use Rattle.claim_model.specs.Numbered.{numbered, renumbered}
 use Rattle.claim_model.specs.Journal.{RetryRule, Journal, JournalAtRest, Kept, Sending, Submitted, submitted, ticked, due, heard, stopped, started, kept_entry, is_rule, with_rule, ruled_anew}
-use Rattle.claim_model.specs.Node.{Node, Power, Up, AtRest, Sent, Call, Submit, Tick, Take, Stop, Start, Revise, OfPlan, OfRule, Adjudicate, Outcome, Done, Refused, to_switch, after_submit, after_hearing, pharmacy_takes, pharmacy_step}
+use Rattle.claim_model.specs.Node.{Node, Power, Up, AtRest, Sent, Call, Submit, Tick, Take, Stop, Start, Revise, OfPlan, OfRule, OfCap, Adjudicate, Outcome, Done, Refused, to_switch, after_submit, after_hearing, pharmacy_takes, pharmacy_step}
 use Rattle.claim_model.specs.World.{World, packet_from}
 use Rattle.claim_model.specs.Limits.{most_entries}
 use Rattle.claim_model.specs.Settings.{WorldSettings, Accepts}
@@ -265,6 +265,7 @@ pharmacy_sound ctx given w n (Up j) next (Revise (OfPlan change)) sent laws acce
 pharmacy_sound ctx given w n (Up j) next (Revise (OfRule rule)) sent laws accepts x is c e =
     let d = rule_taken (is_rule ctx.switches rule) (Up (ruled_anew rule j)) next [] sent e in
     moved ctx given w n (Up (ruled_anew rule j)) next [] sent d.1 d.2 (rule_step ctx given w n j rule x is)
+pharmacy_sound ctx given w n (Up j) next (Revise (OfCap most)) sent laws accepts x is c e = absurd cc
 pharmacy_sound ctx given w n (Up j) next (Adjudicate from bytes advice) sent laws accepts x is c e = absurd cc
 pharmacy_sound ctx given w n (AtRest j) next Start sent laws accepts x is c e =
     let d = done_same (Up (started j)) next [] sent e in
@@ -275,4 +276,5 @@ pharmacy_sound ctx given w n (AtRest j) next (Take from bytes) sent laws accepts
 pharmacy_sound ctx given w n (AtRest j) next Stop sent laws accepts x is c e = absurd cc
 pharmacy_sound ctx given w n (AtRest j) next (Revise (OfPlan change)) sent laws accepts x is c e = absurd cc
 pharmacy_sound ctx given w n (AtRest j) next (Revise (OfRule rule)) sent laws accepts x is c e = absurd cc
+pharmacy_sound ctx given w n (AtRest j) next (Revise (OfCap most)) sent laws accepts x is c e = absurd cc
 pharmacy_sound ctx given w n (AtRest j) next (Adjudicate from bytes advice) sent laws accepts x is c e = absurd cc

@@ -3,7 +3,7 @@ use Rattle.std.proofs.Common.{◌≡◌, true, List, [], map, Result, Ok, Err, r
 use Rattle.claim_model.specs.Words.{Envelope, EnvelopeFault}
 use Rattle.claim_model.specs.Context.{Context}
 use Rattle.claim_model.specs.Journal.{RetryRule, opening_rule, Journal, JournalAtRest, State, Has, submitted, ticked, due, heard, stopped, started, is_rule, with_rule, ruled_anew}
-use Rattle.claim_model.specs.Node.{Power, Up, AtRest, Sent, Call, Submit, Tick, Take, Stop, Start, Revise, OfPlan, OfRule, Adjudicate, Done, to_switch, pharmacy_takes, pharmacy_step}
+use Rattle.claim_model.specs.Node.{Power, Up, AtRest, Sent, Call, Submit, Tick, Take, Stop, Start, Revise, OfPlan, OfRule, OfCap, Adjudicate, Done, to_switch, pharmacy_takes, pharmacy_step}
 use Rattle.claim_model.specs.Held.{journal_in}
 use Rattle.claim_model.proofs.Journals.{entered_journal, settled_journal, submitted_is, heard_is, ticked_same, started_same, ruled_same}
 use Rattle.claim_model.proofs.PharmacyStep.{done_same, rule_taken, after_submit_done, after_hearing_done}
@@ -40,6 +40,7 @@ rule_moves ctx (Up j) next Stop sent e = subst (λ y. RuleMoves ctx (stopped j) 
 rule_moves ctx (Up j) next (Revise (OfRule rule)) sent e =
     let d = rule_taken (is_rule ctx.switches rule) (Up (ruled_anew rule j)) next [] sent e in
     subst (λ y. RuleMoves ctx (stopped j) (journal_in y)) d.1 (subst (RuleMoves ctx (stopped j)) (sym (ruled_same rule j)) (Comes d.0))
+rule_moves ctx (Up j) next (Revise (OfCap most)) sent e = absurd cc
 rule_moves ctx (AtRest j) next Start sent e = subst (λ y. RuleMoves ctx j (journal_in y)) (done_same (Up (started j)) next [] sent e).0 (same_rule ctx j (stopped (started j)) (started_same j))
 rule_moves ctx (Up j) next Start sent e = absurd cc
 rule_moves ctx (Up j) next (Revise (OfPlan change)) sent e = absurd cc
@@ -50,6 +51,7 @@ rule_moves ctx (AtRest j) next (Take from bytes) sent e = absurd cc
 rule_moves ctx (AtRest j) next Stop sent e = absurd cc
 rule_moves ctx (AtRest j) next (Revise (OfPlan change)) sent e = absurd cc
 rule_moves ctx (AtRest j) next (Revise (OfRule rule)) sent e = absurd cc
+rule_moves ctx (AtRest j) next (Revise (OfCap most)) sent e = absurd cc
 rule_moves ctx (AtRest j) next (Adjudicate from bytes advice) sent e = absurd cc
 
 has_moved : (ctx : Context) (j after : JournalAtRest) → RuleMoves ctx j after → HasRule ctx j → HasRule ctx after

@@ -12,7 +12,7 @@ use Rattle.claim_model.specs.Book.{Answered, answered, unadvised}
 use Rattle.claim_model.specs.Journal.{PharmacySettings, RetryRule, Kept, JournalAtRest, Journal, Sending, Waits, Has, submitted, ticked, due, heard, stopped, started, ruled_anew}
 use Rattle.claim_model.specs.Counted.{Counted, counted}
 use Rattle.claim_model.specs.Table.{Table, Routed, Forward, Back, Requested, requested, Responded, responded}
-use Rattle.claim_model.specs.Node.{Pharmacy, Switch, Payer, OfPlan, OfRule, Up, Outcome, Done, Refused}
+use Rattle.claim_model.specs.Node.{Pharmacy, Switch, Payer, OfPlan, OfRule, OfCap, Up, Outcome, Done, Refused}
 use Rattle.claim_model.specs.World.{World, Event, Submission, Ticking, Delivery, Stopping, Starting, Revising, Adjudication, step, run, world_after}
 use Rattle.claim_model.specs.Settings.{opening}
 use Rattle.claim_model.specs.Held.{journal_at, book_at, held}
@@ -477,3 +477,18 @@ hears_not = refl
 hears_once : map (λ e. why_not (heard small one_settled e)) (response_of 1 a1 ∷ response_of 1 a1_again ∷ []) ≡ Some AlreadySettled ∷ Some Differs ∷ []
 unfolding heard
 hears_once = refl
+
+-- another cap: a switch that is up has none, nor has a node of another kind; at rest it has, and starts with it
+caps_refused : refusals narrow (
+    Revising (Switch 1) (OfCap 1) ∷ Revising (Pharmacy 1) (OfCap 1) ∷ Revising (Payer 1) (OfCap 1) ∷ Revising (Switch 2) (OfCap 1) ∷ Stopping (Pharmacy 1) ∷ Stopping (Switch 1) ∷ Stopping (Payer 1)
+    ∷ Revising (Pharmacy 1) (OfCap 1) ∷ Revising (Payer 1) (OfCap 1) ∷ Revising (Switch 1) (OfRule hasty) ∷ Revising (Switch 1) (OfPlan (SetTerms 0 0)) ∷ Revising (Switch 1) (OfCap 1) ∷ [])
+    ≡ Some AlreadyUp ∷ Some NoSuchNode ∷ Some NoSuchNode ∷ Some NoSuchNode ∷ None ∷ None ∷ None ∷ Some NoSuchNode ∷ Some NoSuchNode ∷ Some NoSuchNode ∷ Some NoSuchNode ∷ None ∷ []
+unfolding one step answered readable transaction_code ruling judged submitted ticked due requested responded heard stopped started counted held refusals_by pharmacy
+caps_refused = refl
+
+-- a table of one: the second request drives out the first, whose answer is refused then
+caps_count_from_a_start : refusals narrow (
+    Stopping (Switch 1) ∷ Revising (Switch 1) (OfCap 1) ∷ Starting (Switch 1) ∷ Submission 1 c1 ∷ Submission 1 (1 ∷ 7 ∷ 4 ∷ 11 ∷ []) ∷ Delivery 1 ∷ Delivery 2 ∷ Delivery 3 ∷ Delivery 4 ∷ Delivery 5 ∷ Delivery 6 ∷ [])
+    ≡ None ∷ None ∷ None ∷ None ∷ None ∷ None ∷ None ∷ None ∷ None ∷ Some NotWaiting ∷ None ∷ []
+unfolding one step answered readable transaction_code ruling judged submitted ticked due requested responded heard stopped started counted held refusals_by pharmacy
+caps_count_from_a_start = refl

@@ -9,7 +9,7 @@ use Rattle.claim_model.specs.Numbered.{numbered, renumbered}
 use Rattle.claim_model.specs.Rows.{Row, Book}
 use Rattle.claim_model.specs.Book.{new_row}
 use Rattle.claim_model.specs.Journal.{RetryRule, Journal, JournalAtRest, Kept, submitted, ticked, due, heard, stopped, started, is_rule, with_rule, ruled_anew}
-use Rattle.claim_model.specs.Node.{Power, Up, AtRest, Sent, Call, Submit, Tick, Take, Stop, Start, Revise, OfPlan, OfRule, Adjudicate, Outcome, Done, Refused, to_switch, pharmacy_takes, pharmacy_step}
+use Rattle.claim_model.specs.Node.{Power, Up, AtRest, Sent, Call, Submit, Tick, Take, Stop, Start, Revise, OfPlan, OfRule, OfCap, Adjudicate, Outcome, Done, Refused, to_switch, pharmacy_takes, pharmacy_step}
 use Rattle.claim_model.specs.World.{World, Event, step, world_after, run}
 use Rattle.claim_model.specs.Held.{journal_in, book_in, journal_at, book_at}
 use Rattle.claim_model.specs.Promises.{EntryStays, StaysDecided}
@@ -99,6 +99,7 @@ pharmacy_on ctx (Up j) next (Revise (OfPlan change)) sent e = absurd cc
 pharmacy_on ctx (Up j) next (Revise (OfRule rule)) sent e =
     let d = rule_taken (is_rule ctx.switches rule) (Up (ruled_anew rule j)) next [] sent e in
     subst (λ y. Goes_on (stopped j) (journal_in y)) d.1 (subst (Goes_on (stopped j)) (sym (ruled_same rule j)) (on_ruled (stopped j) rule))
+pharmacy_on ctx (Up j) next (Revise (OfCap most)) sent e = absurd cc
 pharmacy_on ctx (Up j) next (Adjudicate from bytes advice) sent e = absurd cc
 pharmacy_on ctx (AtRest j) next (Submit text) sent e = absurd cc
 pharmacy_on ctx (AtRest j) next Tick sent e = absurd cc
@@ -106,6 +107,7 @@ pharmacy_on ctx (AtRest j) next (Take from bytes) sent e = absurd cc
 pharmacy_on ctx (AtRest j) next Stop sent e = absurd cc
 pharmacy_on ctx (AtRest j) next (Revise (OfPlan change)) sent e = absurd cc
 pharmacy_on ctx (AtRest j) next (Revise (OfRule rule)) sent e = absurd cc
+pharmacy_on ctx (AtRest j) next (Revise (OfCap most)) sent e = absurd cc
 pharmacy_on ctx (AtRest j) next (Adjudicate from bytes advice) sent e = absurd cc
 
 -- books

@@ -9,7 +9,7 @@ use Rattle.claim_model.specs.Readable.{readable, payer_for, rejection, same_id, 
 use Rattle.claim_model.specs.Refusal.{Refusal}
 use Rattle.claim_model.specs.Numbered.{numbered}
 use Rattle.claim_model.specs.Table.{Slot, Table, Routed, Forward, Back, Requested, slot_of, routed_by, requested_again, entered_where, requested_by, requested_readable, requested, Responded, responded_with, responded_by, responded_readable, responded}
-use Rattle.claim_model.specs.Node.{Node, Power, Up, AtRest, Sent, Call, Submit, Tick, Take, Stop, Start, Revise, Adjudicate, Done, to_payer_or_back, after_request, after_response, switch_takes, switch_step}
+use Rattle.claim_model.specs.Node.{Node, Power, Up, AtRest, Sent, Call, Submit, Tick, Take, Stop, Start, Revise, OfPlan, OfRule, OfCap, Adjudicate, Done, to_payer_or_back, after_request, after_response, switch_takes, switch_step}
 use Rattle.claim_model.specs.World.{World, packet_from}
 use Rattle.claim_model.specs.Settings.{WorldSettings}
 use Rattle.claim_model.specs.Held.{asked, decided}
@@ -201,7 +201,11 @@ taken ctx given w (AtRest cap) next (Submit text) sent laws x all c e = absurd c
 taken ctx given w (AtRest cap) next Tick sent laws x all c e = absurd cc
 taken ctx given w (AtRest cap) next (Take from bytes) sent laws x all c e = absurd cc
 taken ctx given w (AtRest cap) next Stop sent laws x all c e = absurd cc
-taken ctx given w (AtRest cap) next (Revise change) sent laws x all c e = absurd cc
+taken ctx given w (AtRest cap) next (Revise (OfPlan change)) sent laws x all c e = absurd cc
+taken ctx given w (AtRest cap) next (Revise (OfRule rule)) sent laws x all c e = absurd cc
+taken ctx given w (AtRest cap) next (Revise (OfCap most)) sent laws x all c e =
+    let d = done_same (AtRest most) next [] sent e in
+    record { table = subst (SoundSwitch ctx w) d.0 tt; sent = subst (AllByRecursion (λ (q : Sent). Carries ctx w q.bytes)) d.1 tt }
 taken ctx given w (AtRest cap) next (Adjudicate from bytes advice) sent laws x all c e = absurd cc
 
 pub switch_sound : (ctx : Context) (given : WorldSettings) (w : World) (n : ℕ) (s next : Power Table ℕ) (call : Call) (sent : List Sent)

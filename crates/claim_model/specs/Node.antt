@@ -20,10 +20,11 @@ pub record Sent : Type 0 where
   pub to : Node
   pub bytes : List ℕ
 
--- what changes by a call: the plan of a payer, or the rule of retries of a pharmacy
+-- what changes by a call: the plan of a payer, the rule of retries of a pharmacy, or the cap of a switch
 pub data Revision : Type 0 where
   OfPlan : Change → Revision
   OfRule : RetryRule → Revision
+  OfCap : (most : ℕ) → Revision
 
 -- a call on one node. Adjudicate takes a packet with an advice: the answer of the payer's own system to the request in it
 pub data Call : Type 0 where
@@ -70,6 +71,7 @@ pharmacy_up ctx j Stop = Done (AtRest (stopped j)) []
 pharmacy_up ctx j Start = Refused AlreadyUp
 pharmacy_up ctx j (Revise (OfPlan change)) = Refused NoSuchNode
 pharmacy_up ctx j (Revise (OfRule rule)) = cond (is_rule ctx.switches rule) (Done (Up (ruled_anew rule j)) []) (Refused BadRule)
+pharmacy_up ctx j (Revise (OfCap most)) = Refused NoSuchNode
 pharmacy_up ctx j (Adjudicate from bytes advice) = Refused NoSuchNode
 
 abbrev pub pharmacy_at_rest : JournalAtRest → Call → Outcome (Power Journal JournalAtRest)
@@ -80,6 +82,7 @@ pharmacy_at_rest j Stop = Refused Down
 pharmacy_at_rest j Start = Done (Up (started j)) []
 pharmacy_at_rest j (Revise (OfPlan change)) = Refused NoSuchNode
 pharmacy_at_rest j (Revise (OfRule rule)) = Refused Down
+pharmacy_at_rest j (Revise (OfCap most)) = Refused NoSuchNode
 pharmacy_at_rest j (Adjudicate from bytes advice) = Refused NoSuchNode
 
 -- a call on a pharmacy
@@ -87,7 +90,7 @@ abbrev pub pharmacy_step : Context → Power Journal JournalAtRest → Call → 
 pharmacy_step ctx (Up j) call = pharmacy_up ctx j call
 pharmacy_step ctx (AtRest j) call = pharmacy_at_rest j call
 
--- switches, of which only the cap outlives a stop
+-- switches, of which only the cap outlives a stop, and changes until the next start
 
 abbrev pub to_payer_or_back : Node → Routed → Sent
 to_payer_or_back from (Forward payer bytes) = record { to = Payer payer; bytes = bytes }
@@ -105,13 +108,19 @@ abbrev pub switch_takes : Context → Table → Result Envelope EnvelopeFault �
 switch_takes ctx t (Err fault) = Refused (NoEnvelope fault)
 switch_takes ctx t (Ok e) = cond (is_request e) (after_request e.id (requested ctx t e)) (after_response e.id (responded ctx t e))
 
+-- why a switch that is up does not change so: a table has its cap for as long as it is there
+abbrev pub unchanged_up : Revision → Refusal
+unchanged_up (OfPlan change) = NoSuchNode
+unchanged_up (OfRule rule) = NoSuchNode
+unchanged_up (OfCap most) = AlreadyUp
+
 abbrev pub switch_up : Context → Table → Call → Outcome (Power Table ℕ)
 switch_up ctx t (Submit text) = Refused NoSuchNode
 switch_up ctx t Tick = Refused NoSuchNode
 switch_up ctx t (Take from bytes) = switch_takes ctx t (ctx.read_envelope bytes)
 switch_up ctx t Stop = Done (AtRest t.cap) []
 switch_up ctx t Start = Refused AlreadyUp
-switch_up ctx t (Revise revision) = Refused NoSuchNode
+switch_up ctx t (Revise revision) = Refused (unchanged_up revision)
 switch_up ctx t (Adjudicate from bytes advice) = Refused NoSuchNode
 
 abbrev pub switch_at_rest : ℕ → Call → Outcome (Power Table ℕ)
@@ -120,7 +129,9 @@ switch_at_rest cap Tick = Refused NoSuchNode
 switch_at_rest cap (Take from bytes) = Refused Down
 switch_at_rest cap Stop = Refused Down
 switch_at_rest cap Start = Done (Up (record { cap = cap; entries = [] })) []
-switch_at_rest cap (Revise revision) = Refused NoSuchNode
+switch_at_rest cap (Revise (OfPlan change)) = Refused NoSuchNode
+switch_at_rest cap (Revise (OfRule rule)) = Refused NoSuchNode
+switch_at_rest cap (Revise (OfCap most)) = Done (AtRest most) []
 switch_at_rest cap (Adjudicate from bytes advice) = Refused NoSuchNode
 
 -- a call on a switch
@@ -154,6 +165,7 @@ payer_up ctx b Stop = Done (AtRest b) []
 payer_up ctx b Start = Refused AlreadyUp
 payer_up ctx b (Revise (OfPlan change)) = after_reprice b (ctx.reprice b.plan change)
 payer_up ctx b (Revise (OfRule rule)) = Refused NoSuchNode
+payer_up ctx b (Revise (OfCap most)) = Refused NoSuchNode
 payer_up ctx b (Adjudicate from bytes advice) = cond b.settings.asks (payer_takes ctx b (advice_in ctx advice) from (ctx.read_envelope bytes)) (Refused NotAsked)
 
 abbrev pub payer_at_rest : Book → Call → Outcome (Power Book Book)
@@ -164,6 +176,7 @@ payer_at_rest b Stop = Refused Down
 payer_at_rest b Start = Done (Up b) []
 payer_at_rest b (Revise (OfPlan change)) = Refused Down
 payer_at_rest b (Revise (OfRule rule)) = Refused NoSuchNode
+payer_at_rest b (Revise (OfCap most)) = Refused NoSuchNode
 payer_at_rest b (Adjudicate from bytes advice) = Refused Down
 
 -- a call on a payer

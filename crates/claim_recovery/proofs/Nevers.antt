@@ -12,7 +12,7 @@ use Rattle.claim_model.specs.Rows.{Row, Book}
 use Rattle.claim_model.specs.Book.{row_of, new_row, has_verdicts, unadvised, Answered, entered_row, answered_by, answered_readable, answered}
 use Rattle.claim_model.specs.Journal.{Journal, JournalAtRest}
 use Rattle.claim_model.specs.Table.{Table}
-use Rattle.claim_model.specs.Node.{Node, Pharmacy, Switch, Payer, Power, Up, AtRest, Sent, Call, Submit, Tick, Take, Stop, Start, Revise, Revision, OfPlan, OfRule, Adjudicate, Outcome, Done, Refused, after_answer, payer_takes, advice_in, after_reprice, pharmacy_step, switch_step, payer_step}
+use Rattle.claim_model.specs.Node.{Node, Pharmacy, Switch, Payer, Power, Up, AtRest, Sent, Call, Submit, Tick, Take, Stop, Start, Revise, Revision, OfPlan, OfRule, OfCap, Adjudicate, Outcome, Done, Refused, after_answer, payer_takes, advice_in, after_reprice, pharmacy_step, switch_step, payer_step}
 use Rattle.claim_model.specs.World.{World, Packet, Event, Submission, Ticking, Delivery, Stopping, Starting, Revising, Adjudication, on_pharmacy, on_switch, on_payer, on_node, delivered, adjudicated, step, world_after, run}
 use Rattle.claim_model.specs.Settings.{WorldSettings}
 use Rattle.claim_model.specs.Held.{book_in, book_at, row_at, row_answer, asked, decided_by, decided_for, decided, held}
@@ -181,6 +181,7 @@ full_keeps ctx id (Up b) next (Adjudicate from bytes advice) sent q f e =
 full_keeps ctx id (Up b) next Stop sent q f e = subst (λ (x : Power Book Book). IsFull id (book_in x)) (done_same (AtRest b) next [] sent e).0 f
 full_keeps ctx id (Up b) next (Revise (OfPlan change)) sent q f e = full_reprice id b (ctx.reprice b.plan change) next sent f e
 full_keeps ctx id (Up b) next (Revise (OfRule rule)) sent q f e = absurd cc
+full_keeps ctx id (Up b) next (Revise (OfCap most)) sent q f e = absurd cc
 full_keeps ctx id (AtRest b) next Start sent q f e = subst (λ (x : Power Book Book). IsFull id (book_in x)) (done_same (Up b) next [] sent e).0 f
 full_keeps ctx id (Up b) next (Submit text) sent q f e = absurd cc
 full_keeps ctx id (Up b) next Tick sent q f e = absurd cc
@@ -191,6 +192,7 @@ full_keeps ctx id (AtRest b) next (Take from bytes) sent q f e = absurd cc
 full_keeps ctx id (AtRest b) next Stop sent q f e = absurd cc
 full_keeps ctx id (AtRest b) next (Revise (OfPlan change)) sent q f e = absurd cc
 full_keeps ctx id (AtRest b) next (Revise (OfRule rule)) sent q f e = absurd cc
+full_keeps ctx id (AtRest b) next (Revise (OfCap most)) sent q f e = absurd cc
 full_keeps ctx id (AtRest b) next (Adjudicate from bytes advice) sent q f e = absurd cc
 
 any_calls : (payer : ℕ) (event : Event) → CallsFor AnyCall payer event

@@ -61,8 +61,8 @@ is what journals and books then say",
     Word {
         name: "csv",
         takes: Takes::Text("TABLE"),
-        help: "writes a table of what the run left as CSV: payments, entries, rows, packets, counted, prices, terms or retries; alone, \
-payments, entries, rows, open, counted, prices, terms or retries; of days the first five of these",
+        help: "writes a table of what the run left as CSV: payments, entries, rows, packets, counted, prices, terms, retries or caps; alone, \
+payments, entries, rows, open, counted, prices, terms, retries or caps; of days the first five of these",
     },
     Word {
         name: "json",

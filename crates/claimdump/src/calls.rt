@@ -36,6 +36,10 @@ pub(crate) fn call_of(packets: &[Packet], event: &Event) -> Result<Option<(Node,
             again,
             tries,
         } => ruled(*pharmacy, nodes, *again, *tries),
+        Event::Cap { switch, entries } => {
+            let entries = *entries;
+            Ok(Some((Node::Switch(*switch), Call::Cap { entries })))
+        }
         Event::Adjudicate { packet, advice } => adjudicated(packets, *packet, advice),
     }
 }

@@ -7,7 +7,7 @@ use Rattle.std.proofs.lemmas.List.{take-append-drop, length-take-le}
 use Rattle.std.specs.List.{AllByRecursion, flat_map}
 use Rattle.codec.specs.Options.{◌>>=◌}
 use Rattle.codec.specs.Fields.{bytes_at, u8_at}
-use Rattle.codec.specs.Codecs.{Codec, u8, u16, u32, u64, at_most, exactly, sized, text, both, of_parts, form, empty, Spelled, made_at, tagged, times, counted, all_of, whole}
+use Rattle.codec.specs.Codecs.{Codec, u8, u16, u32, u64, at_most, at_least, exactly, sized, text, both, of_parts, form, empty, Spelled, made_at, tagged, times, counted, all_of, whole}
 use Rattle.codec.specs.Laws.{AreBytes, IsTaken, IsCodec}
 use Rattle.codec.proofs.FieldsBack.{bytes_at-put, u8_at-put, u16_at-put, u32_at-put, u64_at-put}
 use Rattle.codec.proofs.FieldsOnly.{drop_bytes, long_from, long_enough, u8_at_taken, u16_at_taken, u32_at_taken, u64_at_taken}
@@ -41,6 +41,16 @@ at_most_is {c} most p = record {
       let passed = cond_some (nat_le first.0.0 most) first.0 (n, rest) first.2 in
       let is = p.only bytes n rest are (first.1 ∙ ap Some passed.1) in
       (is.0, (subst (λ (m : ℕ × List ℕ). m.0 ≤ most) passed.1 (leb-true first.0.0 most passed.0), is.1));
+}
+
+pub at_least_is : {c : Codec ℕ} (least : ℕ) → IsCodec c → IsCodec (at_least least c)
+at_least_is {c} least p = record {
+  back = λ n rest fits. rw (p.back n rest fits.1, le-leb least n fits.0) refl;
+  only = λ bytes n rest are h.
+      let first = option_then (c.at bytes) (λ (m : ℕ × List ℕ). cond (nat_le least m.0) (Some m) None) (n, rest) h in
+      let passed = cond_some (nat_le least first.0.0) first.0 (n, rest) first.2 in
+      let is = p.only bytes n rest are (first.1 ∙ ap Some passed.1) in
+      (is.0, (subst (λ (m : ℕ × List ℕ). least ≤ m.0) passed.1 (leb-true least first.0.0 passed.0), is.1));
 }
 
 -- what stands there is both, one after the other

@@ -33,6 +33,14 @@ at_most most c = record {
   Fits = λ n. (n ≤ most) × c.Fits n;
 }
 
+-- a number of at least this
+abbrev pub at_least : ℕ → Codec ℕ → Codec ℕ
+at_least least c = record {
+  text = c.text;
+  at = λ bytes. c.at bytes >>= λ n. cond (nat_le least n.0) (Some n) None;
+  Fits = λ n. (least ≤ n) × c.Fits n;
+}
+
 -- ---- bytes: this many, those after their length, and those after their length of eight bytes
 
 abbrev pub exactly : ℕ → Codec (List ℕ)

@@ -7,7 +7,7 @@ use Rattle.claim_model.specs.Words.{RequestHeader, Envelope, EnvelopeFault}
 use Rattle.claim_model.specs.Context.{Context}
 use Rattle.claim_model.specs.Readable.{readable, payer_for, rejection, is_request, answer_envelope}
 use Rattle.claim_model.specs.Numbered.{numbered}
-use Rattle.claim_model.specs.Node.{Node, Pharmacy, Switch, Payer, Call, Submit, Tick, Take, Stop, Start, Revise, OfPlan, OfRule, Adjudicate}
+use Rattle.claim_model.specs.Node.{Node, Pharmacy, Switch, Payer, Call, Submit, Tick, Take, Stop, Start, Revise, OfPlan, OfRule, OfCap, Adjudicate}
 use Rattle.claim_model.specs.World.{Packet}
 use Rattle.claim_model.specs.Nodes.{same_node}
 use Rattle.claim_model.proofs.Tests.{bytes_same, bytes_self}
@@ -125,6 +125,7 @@ explains_only ctx packets (Pharmacy n) Stop e = tt
 explains_only ctx packets (Pharmacy n) Start e = tt
 explains_only ctx packets (Pharmacy n) (Revise (OfPlan change)) e = no_truth ⊥ e
 explains_only ctx packets (Pharmacy n) (Revise (OfRule rule)) e = tt
+explains_only ctx packets (Pharmacy n) (Revise (OfCap most)) e = no_truth ⊥ e
 explains_only ctx packets (Pharmacy n) (Adjudicate from bytes advice) e = no_truth ⊥ e
 explains_only ctx packets (Payer n) (Take from bytes) e = taken_so ctx packets n from bytes e
 explains_only ctx packets (Payer n) (Submit text) e = no_truth ⊥ e
@@ -133,6 +134,7 @@ explains_only ctx packets (Payer n) Stop e = tt
 explains_only ctx packets (Payer n) Start e = tt
 explains_only ctx packets (Payer n) (Revise (OfPlan change)) e = tt
 explains_only ctx packets (Payer n) (Revise (OfRule rule)) e = no_truth ⊥ e
+explains_only ctx packets (Payer n) (Revise (OfCap most)) e = no_truth ⊥ e
 explains_only ctx packets (Payer n) (Adjudicate from bytes advice) e = taken_so ctx packets n from bytes e
 explains_only ctx packets (Switch m) call e = no_truth ⊥ e
 
@@ -169,6 +171,7 @@ explains_all ctx packets (Pharmacy n) Stop x = refl
 explains_all ctx packets (Pharmacy n) Start x = refl
 explains_all ctx packets (Pharmacy n) (Revise (OfPlan change)) x = absurd x
 explains_all ctx packets (Pharmacy n) (Revise (OfRule rule)) x = refl
+explains_all ctx packets (Pharmacy n) (Revise (OfCap most)) x = absurd x
 explains_all ctx packets (Pharmacy n) (Adjudicate from bytes advice) x = absurd x
 explains_all ctx packets (Payer n) (Take from bytes) x =
     ap (λ (f : Node). takes_from packets f bytes) x.1 ∙ passed (asks_so x.0 bytes) packets (packet (Pharmacy x.2.0) (Switch x.0) bytes) x.2.1 (passes_asks x.0 bytes x.2.0)
@@ -178,6 +181,7 @@ explains_all ctx packets (Payer n) Stop x = refl
 explains_all ctx packets (Payer n) Start x = refl
 explains_all ctx packets (Payer n) (Revise (OfPlan change)) x = refl
 explains_all ctx packets (Payer n) (Revise (OfRule rule)) x = absurd x
+explains_all ctx packets (Payer n) (Revise (OfCap most)) x = absurd x
 explains_all ctx packets (Payer n) (Adjudicate from bytes advice) x =
     ap (λ (f : Node). takes_from packets f bytes) x.1 ∙ passed (asks_so x.0 bytes) packets (packet (Pharmacy x.2.0) (Switch x.0) bytes) x.2.1 (passes_asks x.0 bytes x.2.0)
 explains_all ctx packets (Switch m) call x = absurd x

@@ -12,7 +12,7 @@ use Rattle.claim_model.specs.Rows.{Book}
 use Rattle.claim_model.specs.Book.{Answered, new_row, unadvised, answered}
 use Rattle.claim_model.specs.Journal.{RetryRule, Journal, JournalAtRest, stopped, heard}
 use Rattle.claim_model.specs.Table.{Table}
-use Rattle.claim_model.specs.Node.{Node, Pharmacy, Switch, Payer, Power, Up, AtRest, Sent, Call, Submit, Tick, Take, Stop, Start, Revise, OfPlan, OfRule, Adjudicate, Outcome, Done, Refused, pharmacy_takes, pharmacy_step, after_answer, payer_takes, advice_in, after_reprice, payer_step}
+use Rattle.claim_model.specs.Node.{Node, Pharmacy, Switch, Payer, Power, Up, AtRest, Sent, Call, Submit, Tick, Take, Stop, Start, Revise, OfPlan, OfRule, OfCap, Adjudicate, Outcome, Done, Refused, pharmacy_takes, pharmacy_step, after_answer, payer_takes, advice_in, after_reprice, payer_step}
 use Rattle.claim_model.specs.World.{World, Packet, Event, Submission, Ticking, Delivery, Stopping, Starting, Revising, Adjudication, packet_from}
 use Rattle.claim_model.specs.Settings.{WorldSettings, Accepts, opening}
 use Rattle.claim_model.specs.Held.{journal_in, book_in}
@@ -364,6 +364,7 @@ enabled ctx s w packets (Pharmacy n) Stop now next sent r up among sources is st
 enabled ctx s w packets (Pharmacy n) Start now next sent r up among sources is steps x = by_itself ctx s w (Pharmacy n) Start (Starting (Pharmacy n)) r up refl
 enabled ctx s w packets (Pharmacy n) (Revise (OfPlan change)) now next sent r up among sources is steps x = absurd x
 enabled ctx s w packets (Pharmacy n) (Revise (OfRule rule)) now next sent r up among sources is steps x = by_itself ctx s w (Pharmacy n) (Revise (OfRule rule)) (Revising (Pharmacy n) (OfRule rule)) r up refl
+enabled ctx s w packets (Pharmacy n) (Revise (OfCap most)) now next sent r up among sources is steps x = absurd x
 enabled ctx s w packets (Pharmacy n) (Adjudicate from bytes advice) now next sent r up among sources is steps x = absurd x
 enabled ctx s w packets (Payer n) (Take from bytes) now next sent r up among sources is steps x =
     payer_enabled ctx s w n from bytes now next sent x.0 x.2.0 r up is steps x.1 (among (packet (Pharmacy x.2.0) (Switch x.0) bytes) x.2.1)
@@ -373,32 +374,39 @@ enabled ctx s w packets (Payer n) Stop now next sent r up among sources is steps
 enabled ctx s w packets (Payer n) Start now next sent r up among sources is steps x = by_itself ctx s w (Payer n) Start (Starting (Payer n)) r up refl
 enabled ctx s w packets (Payer n) (Revise (OfPlan change)) now next sent r up among sources is steps x = by_itself ctx s w (Payer n) (Revise (OfPlan change)) (Revising (Payer n) (OfPlan change)) r up refl
 enabled ctx s w packets (Payer n) (Revise (OfRule rule)) now next sent r up among sources is steps x = absurd x
+enabled ctx s w packets (Payer n) (Revise (OfCap most)) now next sent r up among sources is steps x = absurd x
 enabled ctx s w packets (Payer n) (Adjudicate from bytes advice) now next sent r up among sources is steps x =
     payer_enabled_advised ctx s w n from bytes advice now next sent x.0 x.2.0 r up is steps x.1 (among (packet (Pharmacy x.2.0) (Switch x.0) bytes) x.2.1)
 enabled ctx s w packets (Switch m) call now next sent r up among sources is steps x = absurd x
 
--- ---- who takes an advice, another plan, and another rule of retries
+-- ---- who takes an advice, another plan, another rule of retries, and another cap
 
--- a call with an advice or with a change of a plan is a payer's, and one with a rule of retries a pharmacy's
+-- a call with an advice or with a change of a plan is a payer's, one with a rule of retries a pharmacy's, and one with a cap a switch's
 pub record OfItsKind (node : Node) (call : Call) : Type 0 where
   pub advice : (from : Node) (bytes advice : List ℕ) → call ≡ Adjudicate from bytes advice → (n : ℕ) × (node ≡ Payer n)
   pub plan : (change : Change) → call ≡ Revise (OfPlan change) → (n : ℕ) × (node ≡ Payer n)
   pub rule : (rule : RetryRule) → call ≡ Revise (OfRule rule) → (n : ℕ) × (node ≡ Pharmacy n)
+  pub cap : (most : ℕ) → call ≡ Revise (OfCap most) → (n : ℕ) × (node ≡ Switch n)
 
 -- what explains that a payer takes a packet explains that it takes it with an advice
 pub with_advice : (ctx : Context) (packets : List Packet) (node from : Node) (bytes advice : List ℕ) → (n : ℕ) × (node ≡ Payer n) → IsExplained ctx packets node (Take from bytes) → IsExplained ctx packets node (Adjudicate from bytes advice)
 with_advice ctx packets node from bytes advice y x =
     subst (λ (q : Node). IsExplained ctx packets q (Adjudicate from bytes advice)) (sym y.1) (subst (λ (q : Node). IsExplained ctx packets q (Take from bytes)) y.1 x)
 
--- a pharmacy takes no advice, and no change of a plan
+-- a pharmacy takes no advice, no change of a plan, and no cap
 pub pharmacy_made : (ctx : Context) (n : ℕ) (x : Power Journal JournalAtRest) (call : Call) (next : AnyNode) (sent : List Sent) → node_step ctx (OfPharmacy x) call ≡ Done next sent → OfItsKind (Pharmacy n) call
 pharmacy_made ctx n x call next sent steps =
     record {
       advice = λ from bytes advice e. absurd (takes_none from bytes advice x (ap (node_step ctx (OfPharmacy x)) (sym e) ∙ steps));
       plan = λ change e. absurd (has_none change x (ap (node_step ctx (OfPharmacy x)) (sym e) ∙ steps));
       rule = λ rule e. (n, refl);
+      cap = λ most e. absurd (no_switch most x (ap (node_step ctx (OfPharmacy x)) (sym e) ∙ steps));
     }
   where
+    no_switch : (most : ℕ) (y : Power Journal JournalAtRest) → node_step ctx (OfPharmacy y) (Revise (OfCap most)) ≡ Done next sent → ⊥
+    no_switch most (Up j) f = cc
+    no_switch most (AtRest j) f = cc
+
     has_none : (change : Change) (y : Power Journal JournalAtRest) → node_step ctx (OfPharmacy y) (Revise (OfPlan change)) ≡ Done next sent → ⊥
     has_none change (Up j) f = cc
     has_none change (AtRest j) f = cc
@@ -407,15 +415,20 @@ pharmacy_made ctx n x call next sent steps =
     takes_none from bytes advice (Up j) f = cc
     takes_none from bytes advice (AtRest j) f = cc
 
--- a payer takes no rule of retries
+-- a payer takes no rule of retries, and no cap
 pub payer_made : (ctx : Context) (n : ℕ) (x : Power Book Book) (call : Call) (next : AnyNode) (sent : List Sent) → node_step ctx (OfPayer x) call ≡ Done next sent → OfItsKind (Payer n) call
 payer_made ctx n x call next sent steps =
     record {
       advice = λ from bytes advice e. (n, refl);
       plan = λ change e. (n, refl);
       rule = λ rule e. absurd (takes_none rule x (ap (node_step ctx (OfPayer x)) (sym e) ∙ steps));
+      cap = λ most e. absurd (no_switch most x (ap (node_step ctx (OfPayer x)) (sym e) ∙ steps));
     }
   where
+    no_switch : (most : ℕ) (y : Power Book Book) → node_step ctx (OfPayer y) (Revise (OfCap most)) ≡ Done next sent → ⊥
+    no_switch most (Up b) f = cc
+    no_switch most (AtRest b) f = cc
+
     takes_none : (rule : RetryRule) (y : Power Book Book) → node_step ctx (OfPayer y) (Revise (OfRule rule)) ≡ Done next sent → ⊥
     takes_none rule (Up b) f = cc
     takes_none rule (AtRest b) f = cc
@@ -503,6 +516,7 @@ payer_silent_by ctx (Up b) (Take from bytes) next sent d f e = absurd (d from by
 payer_silent_by ctx (Up b) Stop next sent d f e = cc
 payer_silent_by ctx (Up b) (Revise (OfPlan change)) next sent d f e = repriced_silent b (ctx.reprice b.plan change) next sent e
 payer_silent_by ctx (Up b) (Revise (OfRule rule)) next sent d f e = absurd cc
+payer_silent_by ctx (Up b) (Revise (OfCap most)) next sent d f e = absurd cc
 payer_silent_by ctx (AtRest b) Start next sent d f e = cc
 payer_silent_by ctx (Up b) (Submit text) next sent d f e = absurd cc
 payer_silent_by ctx (Up b) Tick next sent d f e = absurd cc
@@ -513,6 +527,7 @@ payer_silent_by ctx (AtRest b) (Take from bytes) next sent d f e = absurd cc
 payer_silent_by ctx (AtRest b) Stop next sent d f e = absurd cc
 payer_silent_by ctx (AtRest b) (Revise (OfPlan change)) next sent d f e = absurd cc
 payer_silent_by ctx (AtRest b) (Revise (OfRule rule)) next sent d f e = absurd cc
+payer_silent_by ctx (AtRest b) (Revise (OfCap most)) next sent d f e = absurd cc
 payer_silent_by ctx (Up b) (Adjudicate from bytes advice) next sent d f e = absurd (f from bytes advice refl)
 payer_silent_by ctx (AtRest b) (Adjudicate from bytes advice) next sent d f e = absurd cc
 
@@ -542,6 +557,7 @@ new_sources ctx s w u packets (Payer n) Start now next sent r r' among is at ste
 new_sources ctx s w u packets (Payer n) (Revise (OfPlan change)) now next sent r r' among is at steps x =
     none_sent ctx packets (Payer n) sent (payer_silent ctx w n (Revise (OfPlan change)) now next sent (λ from bytes e. cc) (λ from bytes advice e. cc) is steps)
 new_sources ctx s w u packets (Payer n) (Revise (OfRule rule)) now next sent r r' among is at steps x = absurd x
+new_sources ctx s w u packets (Payer n) (Revise (OfCap most)) now next sent r r' among is at steps x = absurd x
 
 -- ---- turn by turn
 

@@ -11,7 +11,7 @@ use Rattle.claim_model.specs.Carried.{Carries, IsVouched}
 use Rattle.claim_model.specs.Local.{Follows}
 use Rattle.claim_model.specs.Laws.{Laws}
 use Rattle.claim_model.specs.Numbered.{numbered}
-use Rattle.claim_model.specs.Node.{Node, Pharmacy, Switch, Payer, Call, Submit, Tick, Take, Stop, Start, Revise, OfPlan, OfRule, Adjudicate, Sent, Outcome, Done, Refused, Power, Revision, pharmacy_step, payer_step}
+use Rattle.claim_model.specs.Node.{Node, Pharmacy, Switch, Payer, Call, Submit, Tick, Take, Stop, Start, Revise, OfPlan, OfRule, OfCap, Adjudicate, Sent, Outcome, Done, Refused, Power, Revision, pharmacy_step, payer_step}
 use Rattle.claim_model.specs.World.{World, Packet, Event, Submission, Ticking, Delivery, Stopping, Starting, Revising, Adjudication, packet_from, step, world_after, run}
 use Rattle.claim_model.specs.Settings.{WorldSettings, Accepts, opening}
 use Rattle.claim_model.specs.Nodes.{AnyNode, OfPharmacy, OfPayer, as_node, node_step, node_at, same_node, Asked, taking, adjudicating, asked}
@@ -126,11 +126,13 @@ revises ctx packets (Pharmacy n) (OfPlan change) d o = let p = o.plan change ref
     no_payer : (n m : ℕ) → Pharmacy n ≡ Payer m → ⊥
     no_payer n m e = cc
 revises ctx packets (Pharmacy n) (OfRule rule) d o = tt
+revises ctx packets (Pharmacy n) (OfCap most) d o = let p = o.cap most refl in absurd (d p.0 p.1)
 revises ctx packets (Payer n) (OfPlan change) d o = tt
 revises ctx packets (Payer n) (OfRule rule) d o = let p = o.rule rule refl in absurd (no_pharmacy n p.0 p.1)
   where
     no_pharmacy : (n m : ℕ) → Payer n ≡ Pharmacy m → ⊥
     no_pharmacy n m e = cc
+revises ctx packets (Payer n) (OfCap most) d o = let p = o.cap most refl in absurd (d p.0 p.1)
 revises ctx packets (Switch m) revision d o = absurd (d m refl)
 
 asked_so : (ctx : Context) (packets wire : List Packet) (event : Event) (a : Asked) → ((p : Packet) → IsAmong wire p → IsHanded ctx packets p) → asked wire event ≡ Some a → AskedSo ctx packets a

@@ -1,4 +1,4 @@
--- A network in which switches have no disk, beside one in which each call of a switch is synced as soon as it is made, and a death is a stop and a start.
+-- A network in which switches have no disk, beside one in which each call of a switch is synced as soon as it is made, and a death is a stop, the cap of the settings, and a start.
 use Rattle.std.proofs.Common.{◌≡◌, ℕ, zero, suc, cond, List, [], ◌∷◌, ◌++◌, map, Option, Some, None, refl, sym, ap, ◌∙◌, subst}
 use Rattle.std.specs.Prelude.{option_map, flat_map}
 use Rattle.std.specs.List.{AllByRecursion}
@@ -6,8 +6,8 @@ use Rattle.std.proofs.lemmas.List.{map-append}
 use Rattle.std.proofs.lemmas.Grind.{flat_map-append}
 use Rattle.claim_model.specs.Context.{Context}
 use Rattle.claim_model.specs.Numbered.{numbered}
-use Rattle.claim_model.specs.Node.{Node, Pharmacy, Switch, Payer, Up, AtRest, Call, Stop, Start, Outcome, Done, Refused}
-use Rattle.claim_model.specs.World.{Packet, Event, Stopping, Starting, packet_from}
+use Rattle.claim_model.specs.Node.{Node, Pharmacy, Switch, Payer, OfCap, Up, AtRest, Call, Stop, Start, Revise, Outcome, Done, Refused}
+use Rattle.claim_model.specs.World.{Packet, Event, Stopping, Starting, Revising, packet_from}
 use Rattle.claim_model.specs.Settings.{WorldSettings, opening}
 use Rattle.claim_model.specs.Nodes.{AnyNode, OfPharmacy, OfSwitch, OfPayer, node_step, node_at, same_node, Asked, asked}
 use Rattle.claim_model.specs.Logs.{Logged, node_after, replay, Makes, posted_by}
@@ -21,7 +21,7 @@ use Rattle.crash_safety.proofs.Sound.{at_each}
 use Rattle.crash_safety.proofs.Moving.{some_is}
 use Rattle.crash_safety.proofs.Courses.{after_append}
 use Rattle.crash_safety.proofs.Appending.{Appended, appends_by, append_one}
-use Rattle.crash_safety.proofs.Caps.{HasCap, replay_keeps, empty_switch, opens_empty}
+use Rattle.crash_safety.proofs.Caps.{IsSwitch, replay_stays, empty_switch, opens_empty}
 
 -- packets among more
 
@@ -93,46 +93,47 @@ pub record Fresh (ctx : Context) (s : WorldSettings) (m : Network) (k : ℕ) (be
   pub others : (other : Node) → (Switch k ≡ other → ⊥) → (after ctx s m more).at other ≡ m.at other
   pub wire : (after ctx s m more).wire ≡ m.wire
 
-stop_logged : Logged
-stop_logged = record { call = Stop; sent = [] }
+-- it is so by now
+anew : (ctx : Context) (s : WorldSettings) (m : Network) (k : ℕ) (before : AnyNode) → Stage ctx s m k before before → Fresh ctx s m k before
+anew ctx s m k before st = record { more = []; stage = st; others = λ other d. refl; wire = refl }
 
-start_logged : Logged
-start_logged = record { call = Start; sent = [] }
-
-same_stage : (ctx : Context) (s : WorldSettings) (m : Network) (k : ℕ) (before a b : AnyNode) → a ≡ b → Stage ctx s m k before a → Stage ctx s m k before b
-same_stage ctx s m k before a b e st = subst (Stage ctx s m k before) e st
-
-started_from : (ctx : Context) (s : WorldSettings) (m : Network) (k c cap : ℕ) (before : AnyNode) → before ≡ empty_switch c → cap ≡ c → Stage ctx s m k before (OfSwitch (AtRest cap)) → Fresh ctx s m k before
-started_from ctx s m k c cap before is same st =
-    let t = staged ctx s m k before (OfSwitch (AtRest cap)) (empty_switch cap) (record { call = Start; sent = [] }) (Starting (Switch k)) st refl refl in
+-- after one call more
+further : (ctx : Context) (s : WorldSettings) (m : Network) (k : ℕ) (before next : AnyNode) (l : Logged) (event : Event) → Staged ctx s m k before next l event → Fresh ctx s (after ctx s m (appends_by (Switch k) event)) k before
+    → Fresh ctx s m k before
+further ctx s m k before next l event one rest =
+    let moves = appends_by (Switch k) event in
+    let joined : after ctx s m (moves ++ rest.more) ≡ after ctx s (after ctx s m moves) rest.more = after_append ctx s m moves rest.more in
     record {
-      more = appends_by (Switch k) (Starting (Switch k));
-      stage = same_stage ctx s (after ctx s m (appends_by (Switch k) (Starting (Switch k)))) k before (empty_switch cap) before (ap empty_switch same ∙ sym is) t.stage;
-      others = t.appended.others;
-      wire = t.appended.wire;
+      more = moves ++ rest.more;
+      stage = subst (λ (x : Network). Stage ctx s x k before before) (sym joined) rest.stage;
+      others = λ other d. ap (λ (x : Network). x.at other) joined ∙ (rest.others other d ∙ one.appended.others other d);
+      wire = ap (λ (x : Network). x.wire) joined ∙ (rest.wire ∙ one.appended.wire);
     }
 
-fresh_power : (ctx : Context) (s : WorldSettings) (m : Network) (k c : ℕ) (before : AnyNode) (now : AnyNode) → before ≡ empty_switch c → HasCap c now → Stage ctx s m k before now → Fresh ctx s m k before
-fresh_power ctx s m k c before (OfPharmacy node) is cap st = absurd cap
-fresh_power ctx s m k c before (OfPayer node) is cap st = absurd cap
-fresh_power ctx s m k c before (OfSwitch (AtRest rest)) is cap st = started_from ctx s m k c rest before is cap st
-fresh_power ctx s m k c before (OfSwitch (Up t)) is cap st =
-    let stops = appends_by (Switch k) (Stopping (Switch k)) in
-    let first = staged ctx s m k before (OfSwitch (Up t)) (OfSwitch (AtRest t.cap)) (record { call = Stop; sent = [] }) (Stopping (Switch k)) st refl refl in
-    let second = started_from ctx s (after ctx s m stops) k c t.cap before is cap first.stage in
-    let joined : after ctx s m (stops ++ second.more) ≡ after ctx s (after ctx s m stops) second.more = after_append ctx s m stops second.more in
-    record {
-      more = stops ++ second.more;
-      stage = subst (λ (x : Network). Stage ctx s x k before before) (sym joined) second.stage;
-      others = λ other d. ap (λ (x : Network). x.at other) joined ∙ (second.others other d ∙ first.appended.others other d);
-      wire = ap (λ (x : Network). x.wire) joined ∙ (second.wire ∙ first.appended.wire);
-    }
+-- from rest: the cap that its settings gave it, and a start
+started_from : (ctx : Context) (s : WorldSettings) (m : Network) (k c rest : ℕ) (before : AnyNode) → before ≡ empty_switch c → Stage ctx s m k before (OfSwitch (AtRest rest)) → Fresh ctx s m k before
+started_from ctx s m k c rest before is st =
+    let capped = after ctx s m (appends_by (Switch k) (Revising (Switch k) (OfCap c))) in
+    let one = staged ctx s m k before (OfSwitch (AtRest rest)) (OfSwitch (AtRest c)) (record { call = Revise (OfCap c); sent = [] }) (Revising (Switch k) (OfCap c)) st refl refl in
+    let two = staged ctx s capped k before (OfSwitch (AtRest c)) before (record { call = Start; sent = [] }) (Starting (Switch k)) one.stage (ap (λ (x : AnyNode). Done x []) (sym is)) refl in
+    further ctx s m k before (OfSwitch (AtRest c)) (record { call = Revise (OfCap c); sent = [] }) (Revising (Switch k) (OfCap c)) one
+    (further ctx s capped k before before (record { call = Start; sent = [] }) (Starting (Switch k)) two
+    (anew ctx s (after ctx s capped (appends_by (Switch k) (Starting (Switch k)))) k before two.stage))
+
+fresh_power : (ctx : Context) (s : WorldSettings) (m : Network) (k c : ℕ) (before : AnyNode) (now : AnyNode) → before ≡ empty_switch c → IsSwitch now → Stage ctx s m k before now → Fresh ctx s m k before
+fresh_power ctx s m k c before (OfPharmacy node) is switch st = absurd switch
+fresh_power ctx s m k c before (OfPayer node) is switch st = absurd switch
+fresh_power ctx s m k c before (OfSwitch (AtRest rest)) is switch st = started_from ctx s m k c rest before is st
+fresh_power ctx s m k c before (OfSwitch (Up t)) is switch st =
+    let one = staged ctx s m k before (OfSwitch (Up t)) (OfSwitch (AtRest t.cap)) (record { call = Stop; sent = [] }) (Stopping (Switch k)) st refl refl in
+    further ctx s m k before (OfSwitch (AtRest t.cap)) (record { call = Stop; sent = [] }) (Stopping (Switch k)) one
+    (started_from ctx s (after ctx s m (appends_by (Switch k) (Stopping (Switch k)))) k c t.cap before is one.stage)
 
 pub fresh : (ctx : Context) (s : WorldSettings) (m : Network) (k : ℕ) (before now : AnyNode) → Stage ctx s m k before now → Fresh ctx s m k before
 fresh ctx s m k before now st =
     let e = opens_empty s k before st.opens in
-    let whole : HasCap e.0 before = subst (HasCap e.0) (sym e.1) refl in
-    fresh_power ctx s m k e.0 before now e.1 (subst (HasCap e.0) st.is (replay_keeps ctx e.0 before (m.at (Switch k)).synced whole)) st
+    let switch : IsSwitch before = subst IsSwitch (sym e.1) tt in
+    fresh_power ctx s m k e.0 before now e.1 (subst IsSwitch st.is (replay_stays ctx before (m.at (Switch k)).synced switch)) st
 
 -- a process of a switch without a disk, and the one with a disk
 pub record IsSwitchBeside (ctx : Context) (s : WorldSettings) (k : ℕ) (p q : Process) : Type 0 where

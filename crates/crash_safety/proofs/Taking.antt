@@ -4,7 +4,7 @@ use Rattle.std.specs.List.{AllByRecursion}
 use Rattle.claim_model.specs.Words.{RouteKey}
 use Rattle.claim_model.specs.Context.{Context}
 use Rattle.claim_model.specs.Laws.{Laws}
-use Rattle.claim_model.specs.Node.{Node, Pharmacy, Switch, Payer, Call, Submit, Tick, Take, Stop, Start, Revise, OfPlan, OfRule, Adjudicate}
+use Rattle.claim_model.specs.Node.{Node, Pharmacy, Switch, Payer, Call, Submit, Tick, Take, Stop, Start, Revise, OfPlan, OfRule, OfCap, Adjudicate}
 use Rattle.claim_model.specs.World.{Packet, Event, packet_from}
 use Rattle.claim_model.specs.Settings.{WorldSettings, Accepts, opening}
 use Rattle.claim_model.specs.Nodes.{same_node}
@@ -40,6 +40,7 @@ explained_more ctx packets more (Pharmacy n) Stop f x = x
 explained_more ctx packets more (Pharmacy n) Start f x = x
 explained_more ctx packets more (Pharmacy n) (Revise (OfPlan change)) f x = x
 explained_more ctx packets more (Pharmacy n) (Revise (OfRule rule)) f x = x
+explained_more ctx packets more (Pharmacy n) (Revise (OfCap most)) f x = x
 explained_more ctx packets more (Pharmacy n) (Adjudicate from bytes advice) f x = x
 explained_more ctx packets more (Payer n) (Take from bytes) f x = (x.0, x.1, (x.2.0, f (packet (Pharmacy x.2.0) (Switch x.0) bytes) x.2.1))
 explained_more ctx packets more (Payer n) (Submit text) f x = x
@@ -48,6 +49,7 @@ explained_more ctx packets more (Payer n) Stop f x = x
 explained_more ctx packets more (Payer n) Start f x = x
 explained_more ctx packets more (Payer n) (Revise (OfPlan change)) f x = x
 explained_more ctx packets more (Payer n) (Revise (OfRule rule)) f x = x
+explained_more ctx packets more (Payer n) (Revise (OfCap most)) f x = x
 explained_more ctx packets more (Payer n) (Adjudicate from bytes advice) f x = (x.0, x.1, (x.2.0, f (packet (Pharmacy x.2.0) (Switch x.0) bytes) x.2.1))
 explained_more ctx packets more (Switch m) call f x = x
 
@@ -161,6 +163,7 @@ call_over ctx route packets (Pharmacy n) Stop stays x = x
 call_over ctx route packets (Pharmacy n) Start stays x = x
 call_over ctx route packets (Pharmacy n) (Revise (OfPlan change)) stays x = x
 call_over ctx route packets (Pharmacy n) (Revise (OfRule rule)) stays x = x
+call_over ctx route packets (Pharmacy n) (Revise (OfCap most)) stays x = x
 call_over ctx route packets (Pharmacy n) (Adjudicate from bytes advice) stays x = x
 call_over ctx route packets (Payer n) (Take from bytes) stays x = x
 call_over ctx route packets (Payer n) (Submit text) stays x = x
@@ -169,6 +172,7 @@ call_over ctx route packets (Payer n) Stop stays x = x
 call_over ctx route packets (Payer n) Start stays x = x
 call_over ctx route packets (Payer n) (Revise (OfPlan change)) stays x = x
 call_over ctx route packets (Payer n) (Revise (OfRule rule)) stays x = x
+call_over ctx route packets (Payer n) (Revise (OfCap most)) stays x = x
 call_over ctx route packets (Payer n) (Adjudicate from bytes advice) stays x = x
 call_over ctx route packets (Switch m) call stays x = x
 

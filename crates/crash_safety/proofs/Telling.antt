@@ -12,7 +12,7 @@ use Rattle.claim_model.specs.Numbered.{numbered, renumbered}
 use Rattle.claim_model.specs.Rows.{Row, Book}
 use Rattle.claim_model.specs.Book.{Answered, row_of, new_row, answered_by, answered_readable, answered}
 use Rattle.claim_model.specs.Journal.{RetryRule, Journal, JournalAtRest, Kept, Submitted, submitted, ticked, heard, stopped, started, is_rule, with_rule, ruled_anew}
-use Rattle.claim_model.specs.Node.{Node, Pharmacy, Power, Up, AtRest, Call, Submit, Tick, Take, Stop, Start, Revise, OfPlan, OfRule, Adjudicate, Done, Refused, after_submit, after_hearing, pharmacy_takes}
+use Rattle.claim_model.specs.Node.{Node, Pharmacy, Power, Up, AtRest, Call, Submit, Tick, Take, Stop, Start, Revise, OfPlan, OfRule, OfCap, Adjudicate, Done, Refused, after_submit, after_hearing, pharmacy_takes}
 use Rattle.claim_model.specs.World.{World, Packet, Event, Submission, Ticking, Delivery, Stopping, Starting, Revising, Adjudication, run}
 use Rattle.claim_model.specs.Settings.{WorldSettings, Accepts, opening}
 use Rattle.claim_model.specs.Held.{journal_in, book_at, asked as submitted_under, row_at, row_answer, decided_by, decided_for, decided, held}
@@ -177,6 +177,7 @@ call_still ctx s v n (Up j) Stop laws d c = d
 call_still ctx s v n (Up j) Start laws d c = d
 call_still ctx s v n (Up j) (Revise (OfPlan change)) laws d c = d
 call_still ctx s v n (Up j) (Revise (OfRule rule)) laws d c = ruled_still ctx v n j rule (is_rule ctx.switches rule) d
+call_still ctx s v n (Up j) (Revise (OfCap most)) laws d c = d
 call_still ctx s v n (Up j) (Adjudicate from bytes advice) laws d c = d
 call_still ctx s v n (AtRest j) Start laws d c = same_journal ctx v n j (stopped (started j)) (started_same j) d
 call_still ctx s v n (AtRest j) (Submit text) laws d c = d
@@ -185,6 +186,7 @@ call_still ctx s v n (AtRest j) (Take from bytes) laws d c = d
 call_still ctx s v n (AtRest j) Stop laws d c = d
 call_still ctx s v n (AtRest j) (Revise (OfPlan change)) laws d c = d
 call_still ctx s v n (AtRest j) (Revise (OfRule rule)) laws d c = d
+call_still ctx s v n (AtRest j) (Revise (OfCap most)) laws d c = d
 call_still ctx s v n (AtRest j) (Adjudicate from bytes advice) laws d c = d
 
 node_still : (ctx : Context) (s : WorldSettings) (v : World) (n : ℕ) (node : AnyNode) (call : Call) → Laws ctx → DecidesNode ctx v n node → IsVouched ctx v call → DecidesNode ctx v n (node_after node (node_step ctx node call))

@@ -10,7 +10,7 @@ use Rattle.claim_model.specs.Readable.{readable, payer_for, same_id, is_request,
 use Rattle.claim_model.specs.Numbered.{numbered}
 use Rattle.claim_model.specs.Journal.{Journal, JournalAtRest, Entry, Sending, Submitted, kept_entry, submitted, ticked, due, heard, stopped, started, sending, is_rule, ruled_anew}
 use Rattle.claim_model.specs.Table.{Slot, Table, Routed, Requested, slot_of, entered_where, routed_by, requested_again, requested_by, requested_readable, requested, filled, responded_with, responded_by, responded_readable, responded}
-use Rattle.claim_model.specs.Node.{Node, Pharmacy, Switch, Payer, Power, Up, AtRest, Sent, Call, Submit, Tick, Take, Stop, Start, Revise, OfPlan, OfRule, Adjudicate, Outcome, Done, Refused, to_switch, pharmacy_takes, pharmacy_step, to_payer_or_back, after_request, after_response, switch_takes, switch_step}
+use Rattle.claim_model.specs.Node.{Node, Pharmacy, Switch, Payer, Power, Up, AtRest, Sent, Call, Submit, Tick, Take, Stop, Start, Revise, OfPlan, OfRule, OfCap, Adjudicate, Outcome, Done, Refused, to_switch, pharmacy_takes, pharmacy_step, to_payer_or_back, after_request, after_response, switch_takes, switch_step}
 use Rattle.claim_model.specs.World.{World, Packet, Event, Submission, Ticking, Delivery, Stopping, Starting, Revising, Adjudication, packet_from, step, world_after, run}
 use Rattle.claim_model.specs.Settings.{WorldSettings, Accepts, opening}
 use Rattle.claim_model.specs.Nodes.{AnyNode, OfPharmacy, OfSwitch, OfPayer, node_step, node_at, same_node, Asked, taking, adjudicating, asked}
@@ -142,12 +142,14 @@ explained_of ctx w packets (Pharmacy n) Stop d o x = tt
 explained_of ctx w packets (Pharmacy n) Start d o x = tt
 explained_of ctx w packets (Pharmacy n) (Revise (OfPlan change)) d o x = let p = o.plan change refl in absurd (pharmacy_no_payer n p.0 p.1)
 explained_of ctx w packets (Pharmacy n) (Revise (OfRule rule)) d o x = tt
+explained_of ctx w packets (Pharmacy n) (Revise (OfCap most)) d o x = let p = o.cap most refl in absurd (d p.0 p.1)
 explained_of ctx w packets (Payer n) (Submit text) d o x = absurd (pharmacy_no_payer x.0 n (sym x.1))
 explained_of ctx w packets (Payer n) Tick d o x = absurd (pharmacy_no_payer x.0 n (sym x.1))
 explained_of ctx w packets (Payer n) Stop d o x = tt
 explained_of ctx w packets (Payer n) Start d o x = tt
 explained_of ctx w packets (Payer n) (Revise (OfPlan change)) d o x = tt
 explained_of ctx w packets (Payer n) (Revise (OfRule rule)) d o x = let p = o.rule rule refl in absurd (pharmacy_no_payer p.0 n (sym p.1))
+explained_of ctx w packets (Payer n) (Revise (OfCap most)) d o x = let p = o.cap most refl in absurd (d p.0 p.1)
 explained_of ctx w packets (Switch m) (Submit text) d o x = absurd (d m refl)
 explained_of ctx w packets (Switch m) Tick d o x = absurd (d m refl)
 explained_of ctx w packets (Switch m) Stop d o x = absurd (d m refl)
@@ -230,6 +232,7 @@ pharmacy_asks ctx s v n (AtRest j) next Start sent r at e = subst (AllByRecursio
 pharmacy_asks ctx s v n (Up j) next Start sent r at e = absurd cc
 pharmacy_asks ctx s v n (Up j) next (Revise (OfPlan change)) sent r at e = absurd cc
 pharmacy_asks ctx s v n (Up j) next (Revise (OfRule rule)) sent r at e = subst (AllByRecursion (AsksSwitch ctx n)) (rule_taken (is_rule ctx.switches rule) (Up (ruled_anew rule j)) next [] sent e).2 tt
+pharmacy_asks ctx s v n (Up j) next (Revise (OfCap most)) sent r at e = absurd cc
 pharmacy_asks ctx s v n (Up j) next (Adjudicate from bytes advice) sent r at e = absurd cc
 pharmacy_asks ctx s v n (AtRest j) next (Submit text) sent r at e = absurd cc
 pharmacy_asks ctx s v n (AtRest j) next Tick sent r at e = absurd cc
@@ -237,6 +240,7 @@ pharmacy_asks ctx s v n (AtRest j) next (Take from bytes) sent r at e = absurd c
 pharmacy_asks ctx s v n (AtRest j) next Stop sent r at e = absurd cc
 pharmacy_asks ctx s v n (AtRest j) next (Revise (OfPlan change)) sent r at e = absurd cc
 pharmacy_asks ctx s v n (AtRest j) next (Revise (OfRule rule)) sent r at e = absurd cc
+pharmacy_asks ctx s v n (AtRest j) next (Revise (OfCap most)) sent r at e = absurd cc
 pharmacy_asks ctx s v n (AtRest j) next (Adjudicate from bytes advice) sent r at e = absurd cc
 
 -- a node's own packets are among those that it sent
@@ -447,7 +451,9 @@ switch_tracked ctx w packets m (AtRest cap) next (Submit text) sent laws all c d
 switch_tracked ctx w packets m (AtRest cap) next Tick sent laws all c d = absurd cc
 switch_tracked ctx w packets m (AtRest cap) next (Take from bytes) sent laws all c d = absurd cc
 switch_tracked ctx w packets m (AtRest cap) next Stop sent laws all c d = absurd cc
-switch_tracked ctx w packets m (AtRest cap) next (Revise revision) sent laws all c d = absurd cc
+switch_tracked ctx w packets m (AtRest cap) next (Revise (OfPlan change)) sent laws all c d = absurd cc
+switch_tracked ctx w packets m (AtRest cap) next (Revise (OfRule rule)) sent laws all c d = absurd cc
+switch_tracked ctx w packets m (AtRest cap) next (Revise (OfCap most)) sent laws all c d = quiet_switch ctx packets m (AtRest most) next sent tt d
 switch_tracked ctx w packets m (AtRest cap) next (Adjudicate from bytes advice) sent laws all c d = absurd cc
 
 -- ---- event by event

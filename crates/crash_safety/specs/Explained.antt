@@ -4,7 +4,7 @@ use Rattle.std.specs.List.{AllByRecursion}
 use Rattle.claim_model.specs.Words.{RequestHeader, Envelope}
 use Rattle.claim_model.specs.Context.{Context}
 use Rattle.claim_model.specs.Readable.{readable, payer_for, rejection, is_request, answer_envelope}
-use Rattle.claim_model.specs.Node.{Node, Pharmacy, Switch, Payer, Sent, Call, Submit, Tick, Take, Stop, Start, Revise, OfPlan, OfRule, Adjudicate, Outcome, Done, Refused}
+use Rattle.claim_model.specs.Node.{Node, Pharmacy, Switch, Payer, Sent, Call, Submit, Tick, Take, Stop, Start, Revise, OfPlan, OfRule, OfCap, Adjudicate, Outcome, Done, Refused}
 use Rattle.claim_model.specs.World.{World, Packet, Event, packet_from, step, world_after}
 use Rattle.claim_model.specs.Settings.{WorldSettings, opening}
 use Rattle.claim_model.specs.Nodes.{AnyNode, node_at, same_node, Asked, asked}
@@ -45,6 +45,7 @@ IsExplained ctx packets (Pharmacy n) Stop = ⊤
 IsExplained ctx packets (Pharmacy n) Start = ⊤
 IsExplained ctx packets (Pharmacy n) (Revise (OfPlan change)) = ⊥
 IsExplained ctx packets (Pharmacy n) (Revise (OfRule rule)) = ⊤
+IsExplained ctx packets (Pharmacy n) (Revise (OfCap most)) = ⊥
 IsExplained ctx packets (Pharmacy n) (Adjudicate from bytes advice) = ⊥
 IsExplained ctx packets (Payer n) (Take from bytes) = (m : ℕ) × (from ≡ Switch m) × ((k : ℕ) × IsAmong packets (packet (Pharmacy k) (Switch m) bytes))
 IsExplained ctx packets (Payer n) (Submit text) = ⊥
@@ -53,6 +54,7 @@ IsExplained ctx packets (Payer n) Stop = ⊤
 IsExplained ctx packets (Payer n) Start = ⊤
 IsExplained ctx packets (Payer n) (Revise (OfPlan change)) = ⊤
 IsExplained ctx packets (Payer n) (Revise (OfRule rule)) = ⊥
+IsExplained ctx packets (Payer n) (Revise (OfCap most)) = ⊥
 IsExplained ctx packets (Payer n) (Adjudicate from bytes advice) = (m : ℕ) × (from ≡ Switch m) × ((k : ℕ) × IsAmong packets (packet (Pharmacy k) (Switch m) bytes))
 IsExplained ctx packets (Switch m) call = ⊥
 

@@ -4,7 +4,7 @@ use Rattle.std.specs.List.{list_any}
 use Rattle.claim_model.specs.Words.{RequestHeader, Envelope, EnvelopeFault}
 use Rattle.claim_model.specs.Context.{Context}
 use Rattle.claim_model.specs.Readable.{readable, payer_for, rejection, is_request, answer_envelope}
-use Rattle.claim_model.specs.Node.{Node, Pharmacy, Switch, Payer, Call, Submit, Tick, Take, Stop, Start, Revise, OfPlan, OfRule, Adjudicate}
+use Rattle.claim_model.specs.Node.{Node, Pharmacy, Switch, Payer, Call, Submit, Tick, Take, Stop, Start, Revise, OfPlan, OfRule, OfCap, Adjudicate}
 use Rattle.claim_model.specs.World.{Packet}
 use Rattle.claim_model.specs.Nodes.{same_node}
 
@@ -57,6 +57,7 @@ explains ctx packets (Pharmacy n) Stop = true
 explains ctx packets (Pharmacy n) Start = true
 explains ctx packets (Pharmacy n) (Revise (OfPlan change)) = false
 explains ctx packets (Pharmacy n) (Revise (OfRule rule)) = true
+explains ctx packets (Pharmacy n) (Revise (OfCap most)) = false
 explains ctx packets (Pharmacy n) (Adjudicate from bytes advice) = false
 explains ctx packets (Payer n) (Take from bytes) = takes_from packets from bytes
 explains ctx packets (Payer n) (Submit text) = false
@@ -65,5 +66,6 @@ explains ctx packets (Payer n) Stop = true
 explains ctx packets (Payer n) Start = true
 explains ctx packets (Payer n) (Revise (OfPlan change)) = true
 explains ctx packets (Payer n) (Revise (OfRule rule)) = false
+explains ctx packets (Payer n) (Revise (OfCap most)) = false
 explains ctx packets (Payer n) (Adjudicate from bytes advice) = takes_from packets from bytes
 explains ctx packets (Switch m) call = false

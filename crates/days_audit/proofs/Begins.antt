@@ -43,7 +43,7 @@ pharmacy_resumed n bytes (Some settings) state e =
 switch_resumed : (bytes : List ℕ) (o : Option ℕ) (state : AnyNode) → resumed_switch bytes o ≡ Some state → (cap : ℕ) × (o ≡ Some cap)
 switch_resumed bytes None state e = absurd cc
 switch_resumed [] (Some cap) state e = (cap, refl)
-switch_resumed (byte ∷ bytes) (Some cap) state e = absurd cc
+switch_resumed (byte ∷ bytes) (Some cap) state e = (cap, refl)
 
 payer_resumed : (n : ℕ) (bytes : List ℕ) (o : Option PayerSettings) (state : AnyNode) → resumed_payer n bytes o ≡ Some state → ((x : Power Book Book) × (state ≡ OfPayer x)) × ((p : PayerSettings) × (o ≡ Some p))
 payer_resumed n bytes None state e = absurd cc

@@ -47,7 +47,8 @@ impl Live {
             | Call::Start
             | Call::Plan { .. }
             | Call::Terms { .. }
-            | Call::Retry { .. } => Ok(true),
+            | Call::Retry { .. }
+            | Call::Cap { .. } => Ok(true),
         }
     }
 

@@ -19,7 +19,8 @@ pub(crate) fn packet_of(call: &Call) -> Option<&Octets> {
         | Call::Start
         | Call::Plan { .. }
         | Call::Terms { .. }
-        | Call::Retry { .. } => None,
+        | Call::Retry { .. }
+        | Call::Cap { .. } => None,
     }
 }
 

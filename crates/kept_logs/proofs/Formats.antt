@@ -1,13 +1,14 @@
 -- The formats of logs: what was put is taken, and only what stands there is taken.
 use Rattle.std.proofs.Common.{◌≡◌, ℕ, zero, suc, List, ◌++◌, Some, None, refl, ap, arith}
 use Rattle.std.proofs.lemmas.Option.{same_Some}
-use Rattle.claim_model.specs.Node.{Node, Pharmacy, Switch, Payer, Sent, Call, Submit, Tick, Take, Stop, Start, Revise, OfPlan, OfRule, Adjudicate}
+use Rattle.claim_model.specs.Node.{Node, Pharmacy, Switch, Payer, Sent, Call, Submit, Tick, Take, Stop, Start, Revise, OfPlan, OfRule, OfCap, Adjudicate}
 use Rattle.claim_model.specs.Journal.{RetryRule}
 use Rattle.claim_model.specs.Words.{SetPrice, SetTerms}
 use Rattle.claim_model.specs.Logs.{Logged}
 use Rattle.codec.specs.Codecs.{u32, text, both}
 use Rattle.codec.specs.Laws.{AreBytes, IsCodec}
 use Rattle.codec.proofs.CodecLaws.{u8_is, u16_is, u32_is, u64_is, exactly_is, text_is, both_is, of_parts_is, form_is, empty_is, made_back, IsKind, made_only, tagged_is, counted_is}
+use Rattle.switch_node.proofs.CapFormat.{cap_is}
 use Rattle.kept_logs.specs.Fields.{node_of, kind_and_number, node_codec}
 use Rattle.kept_logs.specs.Calls.{rule_codec, call_spelled, call_of, call_codec}
 use Rattle.kept_logs.specs.Records.{sent_codec, logged_codec}
@@ -62,6 +63,7 @@ call_is = tagged_is call_spelled call_of back only
     back (Adjudicate from bytes advice) rest fits = made_back advised (λ (p : Node × (List ℕ × List ℕ)). Adjudicate p.0 p.1.0 p.1.1) (from, (bytes, advice)) rest fits
     back (Revise (OfPlan (SetTerms fee copay))) rest fits = made_back agreed (λ (p : ℕ × ℕ). Revise (OfPlan (SetTerms p.0 p.1))) (fee, copay) rest fits
     back (Revise (OfRule rule)) rest fits = made_back rule_is (λ (r : RetryRule). Revise (OfRule r)) rule rest fits
+    back (Revise (OfCap most)) rest fits = made_back cap_is (λ (n : ℕ). Revise (OfCap n)) most rest fits
 
     only : (number : ℕ) (bytes : List ℕ) (c : Call) (rest : List ℕ) → AreBytes bytes → call_of number bytes ≡ Some (c, rest) → IsKind call_spelled number bytes c rest
     only zero bytes c rest are h = made_only text_is call_spelled 0 Submit (λ b r p t f. (refl, t, f)) bytes c rest are h
@@ -75,7 +77,8 @@ call_is = tagged_is call_spelled call_of back only
     only (suc (suc (suc (suc (suc (suc (suc (suc zero)))))))) bytes c rest are h = made_only advised call_spelled 8 (λ (p : Node × (List ℕ × List ℕ)). Adjudicate p.0 p.1.0 p.1.1) (λ b r p t f. (refl, t, f)) bytes c rest are h
     only (suc (suc (suc (suc (suc (suc (suc (suc (suc zero))))))))) bytes c rest are h = made_only agreed call_spelled 9 (λ (p : ℕ × ℕ). Revise (OfPlan (SetTerms p.0 p.1))) (λ b r p t f. (refl, t, f)) bytes c rest are h
     only (suc (suc (suc (suc (suc (suc (suc (suc (suc (suc zero)))))))))) bytes c rest are h = made_only rule_is call_spelled 10 (λ (r : RetryRule). Revise (OfRule r)) (λ b r p t f. (refl, t, f)) bytes c rest are h
-    only (suc (suc (suc (suc (suc (suc (suc (suc (suc (suc (suc number))))))))))) bytes c rest are h = cc
+    only (suc (suc (suc (suc (suc (suc (suc (suc (suc (suc (suc zero))))))))))) bytes c rest are h = made_only cap_is call_spelled 11 (λ (n : ℕ). Revise (OfCap n)) (λ b r p t f. (refl, t, f)) bytes c rest are h
+    only (suc (suc (suc (suc (suc (suc (suc (suc (suc (suc (suc (suc number)))))))))))) bytes c rest are h = cc
 
 pub sent_is : IsCodec sent_codec
 unfolding sent_codec

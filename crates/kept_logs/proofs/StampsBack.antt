@@ -2,7 +2,7 @@
 use Rattle.std.proofs.Common.{◌≡◌, ℕ, ◌==◌, Bool, true, false, cond, List, [], ◌∷◌, ◌++◌, length, Some, None, refl, ap, ◌∙◌, sym, arith}
 use Rattle.std.proofs.lemmas.Bool.{and_parts}
 use Rattle.std.proofs.lemmas.Bool.Decides.{nat_tests}
-use Rattle.claim_model.specs.Node.{Call, Submit, Tick, Take, Stop, Start, Revise, OfPlan, OfRule, Adjudicate}
+use Rattle.claim_model.specs.Node.{Call, Submit, Tick, Take, Stop, Start, Revise, OfPlan, OfRule, OfCap, Adjudicate}
 use Rattle.claim_model.specs.Words.{SetPrice, SetTerms}
 use Rattle.claim_model.specs.Logs.{Logged}
 use Rattle.codec.specs.Fields.{u8_at}
@@ -25,6 +25,7 @@ no_seven (Revise (OfPlan (SetPrice product None))) = refl
 no_seven (Revise (OfPlan (SetPrice product (Some price)))) = refl
 no_seven (Revise (OfPlan (SetTerms fee copay))) = refl
 no_seven (Revise (OfRule rule)) = refl
+no_seven (Revise (OfCap most)) = refl
 no_seven (Adjudicate from bytes advice) = refl
 
 -- what follows the kind of a call

@@ -1,9 +1,10 @@
 -- Calls in a log.
 use Rattle.std.specs.Prelude.{ℕ, zero, suc, List, Option, Some, None}
-use Rattle.claim_model.specs.Node.{Call, Submit, Tick, Take, Stop, Start, Revise, OfPlan, OfRule, Adjudicate}
+use Rattle.claim_model.specs.Node.{Call, Submit, Tick, Take, Stop, Start, Revise, OfPlan, OfRule, OfCap, Adjudicate}
 use Rattle.claim_model.specs.Journal.{RetryRule}
 use Rattle.claim_model.specs.Words.{SetPrice, SetTerms}
 use Rattle.codec.specs.Codecs.{Codec, u16, u32, text, both, counted, of_parts, empty, Spelled, spelled, made_at, tagged}
+use Rattle.switch_node.specs.Bytes.{cap_codec}
 use Rattle.kept_logs.specs.Fields.{node_codec}
 
 -- a rule of retries: after how many ticks it sends again, how often to one switch, and the switches after how many they are
@@ -22,6 +23,7 @@ call_spelled (Revise (OfPlan (SetPrice product (Some price)))) = spelled 6 (both
 call_spelled (Adjudicate from bytes advice) = spelled 8 (both node_codec (both text text)) (from, (bytes, advice))
 call_spelled (Revise (OfPlan (SetTerms fee copay))) = spelled 9 (both u32 u32) (fee, copay)
 call_spelled (Revise (OfRule rule)) = spelled 10 rule_codec rule
+call_spelled (Revise (OfCap most)) = spelled 11 cap_codec most
 
 -- the call of this kind at the front, and what follows it; None where it is cut off or there is no such kind
 abbrev pub call_of : ℕ → List ℕ → Option (Call × List ℕ)
@@ -36,7 +38,8 @@ call_of (suc (suc (suc (suc (suc (suc (suc zero))))))) = λ bytes. None
 call_of (suc (suc (suc (suc (suc (suc (suc (suc zero)))))))) = made_at (both node_codec (both text text)) (λ p. Adjudicate p.0 p.1.0 p.1.1)
 call_of (suc (suc (suc (suc (suc (suc (suc (suc (suc zero))))))))) = made_at (both u32 u32) (λ p. Revise (OfPlan (SetTerms p.0 p.1)))
 call_of (suc (suc (suc (suc (suc (suc (suc (suc (suc (suc zero)))))))))) = made_at rule_codec (λ rule. Revise (OfRule rule))
-call_of (suc (suc (suc (suc (suc (suc (suc (suc (suc (suc (suc number))))))))))) = λ bytes. None
+call_of (suc (suc (suc (suc (suc (suc (suc (suc (suc (suc (suc zero))))))))))) = made_at cap_codec (λ most. Revise (OfCap most))
+call_of (suc (suc (suc (suc (suc (suc (suc (suc (suc (suc (suc (suc number)))))))))))) = λ bytes. None
 
 -- a call after its kind
 unfoldable pub call_codec : Codec Call

@@ -2,17 +2,20 @@
 
 ghost use Rattle.std.specs.Prelude.{◌≡◌, ◌++◌, OnOk, IfOk};
 ghost use Rattle.std.specs.Option.{option_map};
-ghost use Rattle.claim_model.specs.Node.{Submit, Take, Revise, OfPlan, OfRule, Adjudicate};
+ghost use Rattle.claim_model.specs.Node.{Submit, Take, Revise, OfPlan, OfRule, OfCap, Adjudicate};
 ghost use Rattle.claim_model.specs.Words.{SetPrice, SetTerms};
 ghost use Rattle.pharmacy_journal.specs.Ruling.{rule_in};
+ghost use Rattle.switch_node.specs.Settings.{nearest};
 ghost use Rattle.world_setup.specs.Seen.{node_seen, call_seen};
 ghost use Rattle.kept_logs.specs.Calls.{call_codec, call_of};
 
 use crate::nodes::{put_node, take_node};
+use claim_model::Limits;
 use codec::{put_text, put_u8, put_u16s, put_u32, take_text, take_u8, take_u16s, take_u32};
 use octets::Octets;
 use pharmacy_journal::{switch_bytes, switch_numbers};
 use std::alloc::{AllocError, Global};
+use switch_node::{SwitchSettings, put_cap};
 use world_setup::{Call, Node};
 
 /// Puts a call.
@@ -34,6 +37,7 @@ pub(crate) fn put_call(out: &mut Vec<u8>, call: &Call) -> Result<(), AllocError>
             again,
             tries,
         } => put_rule(out, nodes, *again, *tries),
+        Call::Cap { entries } => put_capped(out, *entries),
         Call::Adjudicate {
             from,
             bytes,
@@ -126,6 +130,16 @@ fn put_rule(out: &mut Vec<u8>, nodes: &Octets, again: u32, tries: u32) -> Result
     put_u16s(out, &numbers)
 }
 
+/// Puts another cap.
+#[tactic(auto, unfolding(crate::specs::Calls::call_codec))]
+fn put_capped(out: &mut Vec<u8>, entries: u32) -> Result<(), AllocError>
+    ensures text { OnOk result (out.new.items ≡ out.old.items ++ call_codec.text (Revise (OfCap (nearest entries)))) }
+    ensures fits { OnOk result (call_codec.Fits (Revise (OfCap (nearest entries)))) }
+{
+    put_u8(out, 11)?;
+    put_cap(out, SwitchSettings::nearest(entries))
+}
+
 /// The call at the front and what follows it; none where it is cut off or of no kind that there is.
 #[tactic(auto, unfolding(crate::specs::Calls::call_codec))]
 pub(crate) fn take_call(alloc: Global, bytes: &[u8]) -> Result<Option<(Call, &[u8])>, AllocError>
@@ -152,6 +166,7 @@ fn call_of(alloc: Global, kind: u8, bytes: &[u8]) -> Result<Option<(Call, &[u8])
         8 => take_adjudicate(alloc, bytes),
         9 => Ok(take_terms(bytes)),
         10 => take_rule(alloc, bytes),
+        11 => Ok(take_capped(bytes)),
         _ => Ok(None),
     }
 }
@@ -269,4 +284,15 @@ fn take_rule(alloc: Global, bytes: &[u8]) -> Result<Option<(Call, &[u8])>, Alloc
         tries,
     };
     Ok(Some((call, rest)))
+}
+
+/// Another cap, and what follows it.
+#[tactic(auto, unfolding(switch_node::specs::Bytes::cap_codec))]
+fn take_capped(bytes: &[u8]) -> Option<(Call, &[u8])>
+    ensures { option_map (λ taken. (call_seen taken.0, taken.1.now)) result ≡ call_of 11 bytes.now }
+{
+    let (cap, rest) = take_u32(bytes)?;
+    let settings = SwitchSettings::within(Limits::widest(), cap).ok()?;
+    let entries = settings.cap();
+    Some((Call::Cap { entries }, rest))
 }

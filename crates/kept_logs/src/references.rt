@@ -71,6 +71,7 @@ pub fn note_reference(
         Call::Plan { .. } => Ok(()),
         Call::Terms { .. } => Ok(()),
         Call::Retry { .. } => Ok(()),
+        Call::Cap { .. } => Ok(()),
         Call::Adjudicate { .. } => Ok(()),
     }
 }

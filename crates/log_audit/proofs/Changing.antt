@@ -1,11 +1,12 @@
--- The rows of changes, each told after those before it.
+-- The rows of changes, each told after those before it, or not.
 use Rattle.std.proofs.Common.{◌≡◌, ℕ, ◌+◌, ◌<◌, ◌≤◌, List, [], ◌∷◌, ◌++◌, length, take, drop, get_or, map, sym, ap, ◌∙◌}
+use Rattle.std.specs.Prelude.{Option, None, option_map}
 use Rattle.std.proofs.lemmas.List.{at_drop_more, drop_all, take_more, map-append}
 use Rattle.table_text.specs.Members.{Row}
 use Rattle.table_text.specs.Rows.{rows_text}
 use Rattle.table_text.specs.declared.layout.Style.TheVariants.{Csv}
-use Rattle.log_audit.specs.Following.{rows_behind}
-use Rattle.log_audit.proofs.Joining.{block_goes_on, block_ends}
+use Rattle.log_audit.specs.Following.{rows_behind, row_if}
+use Rattle.log_audit.proofs.Joining.{no_rows, block_goes_on, block_ends}
 
 module _ {A B : Type 0} (seen : A → B) (told : List B → B → List Row) where
   -- those of one change more, after the changes so far
@@ -29,3 +30,11 @@ module _ {A B : Type 0} (seen : A → B) (told : List B → B → List Row) wher
       → a ++ rows_text Csv (rows_behind told before (map seen (drop i xs))) ≡ whole → a ≡ whole
   rows_are_done a whole before xs i le so_far =
       block_ends Csv a whole (sym (ap (λ (left : List A). a ++ rows_text Csv (rows_behind told before (map seen left))) (drop_all i xs le)) ∙ so_far)
+
+-- a change of which nothing is told
+pub nothing_told : {V : Type 0} (row : V → Row) (a : List ℕ) (o : Option V) → o ≡ None → a ≡ a ++ rows_text Csv (row_if row o)
+nothing_told {V} row a o none = no_rows Csv a ∙ ap (λ (v : Option V). a ++ rows_text Csv (row_if row v)) (sym none)
+
+-- the same, by what is seen of it
+pub unseen_told : {U V : Type 0} (row : V → Row) (seen : U → V) (a : List ℕ) (u : Option U) (o : Option V) → u ≡ None → option_map seen u ≡ o → a ≡ a ++ rows_text Csv (row_if row o)
+unseen_told {U} row seen a u o none is = nothing_told row a o (sym is ∙ ap (λ (v : Option U). option_map seen v) none)

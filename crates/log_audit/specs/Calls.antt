@@ -5,7 +5,7 @@ use Rattle.bin_routes.specs.Table.{RouteMaps}
 use Rattle.claim_model.specs.Words.{SetPrice, SetTerms}
 use Rattle.claim_model.specs.Bytes.{bytes_with}
 use Rattle.claim_model.specs.Context.{Context}
-use Rattle.claim_model.specs.Node.{Node, Call, Submit, Tick, Take, Stop, Start, Revise, OfPlan, OfRule, Adjudicate}
+use Rattle.claim_model.specs.Node.{Node, Call, Submit, Tick, Take, Stop, Start, Revise, OfPlan, OfRule, OfCap, Adjudicate}
 use Rattle.kept_logs.specs.Stamps.{Stamped, KeptLog}
 use Rattle.kept_logs.specs.Logs.{kept_in}
 use Rattle.settings_digest.specs.Digests.{digest_under}
@@ -27,6 +27,7 @@ call_word Start = codes "start"
 call_word (Revise (OfPlan (SetPrice product price))) = codes "price"
 call_word (Revise (OfPlan (SetTerms fee copay))) = codes "terms"
 call_word (Revise (OfRule rule)) = codes "retry"
+call_word (Revise (OfCap most)) = codes "cap"
 call_word (Adjudicate from bytes advice) = codes "adjudication"
 
 -- how many submissions a call is

@@ -32,10 +32,11 @@ pub mod Waits
 pub mod WaitsSeen
 pub mod Reasons
 pub mod Changes
+pub mod Following
 pub mod Prices
 pub mod Terms
-pub mod Following
 pub mod Rules
+pub mod Caps
 pub mod ChangeTables
 pub mod Telling
 pub mod LoneTelling

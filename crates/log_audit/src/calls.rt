@@ -144,6 +144,7 @@ fn submissions_in(call: &Call) -> u64
         | Call::Plan { .. }
         | Call::Terms { .. }
         | Call::Retry { .. }
+        | Call::Cap { .. }
         | Call::Adjudicate { .. } => 0,
     }
 }
@@ -210,6 +211,7 @@ fn call_word(call: &Call) -> &'static [u8]
         Call::Plan { .. } => b"price",
         Call::Terms { .. } => b"terms",
         Call::Retry { .. } => b"retry",
+        Call::Cap { .. } => b"cap",
     }
 }
 
@@ -226,7 +228,8 @@ fn sender_field<'a>(call: &Call) -> Field<'a>
         | Call::Start
         | Call::Plan { .. }
         | Call::Terms { .. }
-        | Call::Retry { .. } => { Field::number_or_nothing(b"from", None) }
+        | Call::Retry { .. }
+        | Call::Cap { .. } => { Field::number_or_nothing(b"from", None) }
     }
 }
 
@@ -248,7 +251,8 @@ fn load_of(node: Node, submissions: u64, call: &Call) -> Carried
         | Call::Start
         | Call::Plan { .. }
         | Call::Terms { .. }
-        | Call::Retry { .. } => Carried {
+        | Call::Retry { .. }
+        | Call::Cap { .. } => Carried {
             kind: b"",
             pharmacy: None,
             number: None,

@@ -20,11 +20,11 @@ use crate::fault::AuditFault;
 use crate::judging::reasons::reasons;
 use crate::judging::{Found, LegalRun, run_alone, run_and_world};
 use crate::outgoing::{Outgoing, TextSink};
-use crate::plans::tables::{Changes, run_changes_csv};
 use crate::reading::Audited;
 use crate::report::left::{put_left_counts, put_left_table, tells_senders};
 use crate::report::object::{no_run_object, put_run_object, torn_at};
 use crate::report::scheduling::scheduled;
+use crate::revisions::tables::{Changes, run_changes_csv};
 use crate::sentences::{Manner, Piece, put_pieces};
 use crate::tables::table::Table;
 use node_log::NodeLog;
@@ -51,7 +51,7 @@ pub enum Form {
     /// A table of what the run left, or of what the nodes have, as CSV; nothing where there is none, or a node does not make its
     /// log.
     Csv(Table),
-    /// The changes of payers' plans or of pharmacies' rules of retries, as CSV; nothing where there is no table.
+    /// The changes of payers' plans, of pharmacies' rules of retries or of switches' caps, as CSV; nothing where there is no table.
     Changes(Changes),
     /// The input of a replay of the run; the lines where there is none.
     Schedule,
@@ -113,7 +113,7 @@ fn found_for(alloc: Global, audited: &Audited, form: Form) -> Result<Found, Allo
 }
 
 /// Whether the world of a run is all that is told in this form. Which event sent a packet only making the events tells, and
-/// changes of plans and schedules are told of events.
+/// changes and schedules are told of events.
 fn wants_world(form: Form) -> bool {
     match form {
         Form::Lines => true,

@@ -7,7 +7,7 @@ use Rattle.world_setup.specs.declared.node.Node.{Node}
 use Rattle.schedule.specs.Nodes.{node_in}
 use Rattle.kept_logs.specs.Rests.{calls_before}
 use Rattle.log_turning.specs.Files.{part_in}
-use Rattle.node_service.specs.Most.{most_of}
+use Rattle.node_service.specs.Most.{most_at}
 use Rattle.node_service.specs.Serving.{Serving}
 use Rattle.node_service.specs.declared.fault.ServiceFault.{ServiceFault}
 use Rattle.node_service.specs.Opened.{IsOpened}
@@ -112,7 +112,7 @@ abbrev pub Counts : Option Hosting → Said → ℕ → ℕ → Type 0
 Counts node said before after = Settled node (after ≡ before) (λ s out. TellsCalls (closed_of node) s out before after) said
 
 abbrev pub most_in : Serving → ℕ
-most_in s = most_of (settings_seen s.settings) s.node
+most_in s = most_at (settings_seen s.settings) s.node s.state
 
 -- a number is told, or there is no node
 abbrev pub TellsMost : Option Serving → Said → ℕ → ℕ → Type 0

@@ -86,6 +86,7 @@ fn copy_call(call: &Call) -> Result<Call, AllocError>
             again: *again,
             tries: *tries,
         }),
+        Call::Cap { entries } => Ok(Call::Cap { entries: *entries }),
         Call::Adjudicate {
             from,
             bytes,

@@ -3,7 +3,7 @@ use Rattle.std.proofs.Common.{◌≡◌, Bool, true, false, List, [], ◌∷◌,
 use Rattle.std.specs.Prelude.{⊤}
 use Rattle.claim_model.specs.Context.{Context}
 use Rattle.claim_model.specs.Numbered.{numbered}
-use Rattle.claim_model.specs.Node.{Node, Pharmacy, Switch, Payer, Call, Submit, Tick, Take, Stop, Start, Revise, OfPlan, OfRule, Adjudicate, Up, AtRest, Outcome, Done, Refused, pharmacy_step, switch_step, payer_step}
+use Rattle.claim_model.specs.Node.{Node, Pharmacy, Switch, Payer, Call, Submit, Tick, Take, Stop, Start, Revise, OfPlan, OfRule, OfCap, Adjudicate, Up, AtRest, Outcome, Done, Refused, pharmacy_step, switch_step, payer_step}
 use Rattle.claim_model.specs.World.{World}
 use Rattle.claim_model.specs.Nodes.{AnyNode, OfPharmacy, OfSwitch, OfPayer, as_node, node_step, node_at}
 use Rattle.claim_model.specs.Logs.{Logged, node_after, replay}
@@ -93,9 +93,13 @@ is_own (Switch n) Tick = false
 is_own (Payer n) Tick = false
 is_own (Pharmacy n) (Revise (OfPlan change)) = false
 is_own (Pharmacy n) (Revise (OfRule rule)) = true
-is_own (Switch n) (Revise revision) = false
+is_own (Pharmacy n) (Revise (OfCap most)) = false
+is_own (Switch n) (Revise (OfPlan change)) = false
+is_own (Switch n) (Revise (OfRule rule)) = false
+is_own (Switch n) (Revise (OfCap most)) = true
 is_own (Payer n) (Revise (OfPlan change)) = true
 is_own (Payer n) (Revise (OfRule rule)) = false
+is_own (Payer n) (Revise (OfCap most)) = false
 is_own node (Take from bytes) = true
 is_own node Stop = true
 is_own node Start = true
@@ -113,10 +117,16 @@ foreign ctx (Payer n) p (OfPayer (Up b)) Tick k e = refl
 foreign ctx (Payer n) p (OfPayer (AtRest b)) Tick k e = refl
 foreign ctx (Pharmacy n) p (OfPharmacy (Up j)) (Revise (OfPlan change)) k e = refl
 foreign ctx (Pharmacy n) p (OfPharmacy (AtRest j)) (Revise (OfPlan change)) k e = refl
+foreign ctx (Pharmacy n) p (OfPharmacy (Up j)) (Revise (OfCap most)) k e = refl
+foreign ctx (Pharmacy n) p (OfPharmacy (AtRest j)) (Revise (OfCap most)) k e = refl
 foreign ctx (Payer n) p (OfPayer (Up b)) (Revise (OfRule rule)) k e = refl
 foreign ctx (Payer n) p (OfPayer (AtRest b)) (Revise (OfRule rule)) k e = refl
-foreign ctx (Switch n) p (OfSwitch (Up t)) (Revise revision) k e = refl
-foreign ctx (Switch n) p (OfSwitch (AtRest t)) (Revise revision) k e = refl
+foreign ctx (Payer n) p (OfPayer (Up b)) (Revise (OfCap most)) k e = refl
+foreign ctx (Payer n) p (OfPayer (AtRest b)) (Revise (OfCap most)) k e = refl
+foreign ctx (Switch n) p (OfSwitch (Up t)) (Revise (OfPlan change)) k e = refl
+foreign ctx (Switch n) p (OfSwitch (AtRest t)) (Revise (OfPlan change)) k e = refl
+foreign ctx (Switch n) p (OfSwitch (Up t)) (Revise (OfRule rule)) k e = refl
+foreign ctx (Switch n) p (OfSwitch (AtRest t)) (Revise (OfRule rule)) k e = refl
 foreign ctx (Pharmacy n) p (OfSwitch a) call k e = absurd k
 foreign ctx (Pharmacy n) p (OfPayer a) call k e = absurd k
 foreign ctx (Switch n) p (OfPharmacy a) call k e = absurd k
@@ -127,6 +137,7 @@ foreign ctx (Pharmacy n) p m (Submit text) k e = absurd cc
 foreign ctx (Pharmacy n) p m Tick k e = absurd cc
 foreign ctx (Payer n) p m (Revise (OfPlan change)) k e = absurd cc
 foreign ctx (Pharmacy n) p m (Revise (OfRule rule)) k e = absurd cc
+foreign ctx (Switch n) p m (Revise (OfCap most)) k e = absurd cc
 foreign ctx node p m (Take from bytes) k e = absurd cc
 foreign ctx node p m Stop k e = absurd cc
 foreign ctx node p m Start k e = absurd cc

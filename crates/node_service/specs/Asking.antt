@@ -6,9 +6,9 @@ use Rattle.input_text.specs.Options.{◌>>=◌}
 use Rattle.input_text.specs.Words.{split_word}
 use Rattle.input_text.specs.Decimals.{decimal_number}
 use Rattle.input_text.specs.Printing.{unprinted}
-use Rattle.schedule.specs.Events.{product_in, price_in, price_of}
+use Rattle.schedule.specs.Events.{product_in, price_in, price_of, cap_in}
 use Rattle.world_setup.specs.declared.call.Call as declared
-use Rattle.world_setup.specs.declared.call.Call.TheVariants.{Submit, Tick, Take, Stop, Start, Plan, Terms, Retry, Adjudicate}
+use Rattle.world_setup.specs.declared.call.Call.TheVariants.{Submit, Tick, Take, Stop, Start, Plan, Terms, Retry, Cap, Adjudicate}
 use Rattle.schedule.specs.Nodes.{node_in}
 use Rattle.schedule.specs.Switches.{switches_in}
 use Rattle.node_service.specs.declared.asking.Asked as value
@@ -93,7 +93,8 @@ call_with word rest =
     if bytes_eq word (codes "adjudicate") then adjudication rest else
     if bytes_eq word (codes "plan") then plan_change rest else
     if bytes_eq word (codes "terms") then terms_change rest else
-    if bytes_eq word (codes "retry") then rule_change rest else None
+    if bytes_eq word (codes "retry") then rule_change rest else
+    if bytes_eq word (codes "cap") then option_map Cap (cap_in rest) else None
 
 abbrev pub call_parted : List ℕ → Option (List ℕ × List ℕ) → Option Call
 call_parted line (Some parts) = call_with parts.0 parts.1

@@ -2,12 +2,13 @@
 
 ghost use Rattle.std.specs.Prelude.{◌≡◌, IfOk};
 ghost use Rattle.std.specs.Option.{option_map};
-ghost use Rattle.schedule.specs.Events.{price_of};
+ghost use Rattle.schedule.specs.Events.{cap_in, price_of};
+ghost use Rattle.world_setup.specs.declared.call.Call.TheVariants.{Cap};
 ghost use Rattle.node_service.specs.Asking.{adjudication, asked_of, asked_seen, bytes_in, call_of, call_with, cents_in, named_of, named_submission, noted_of, noted_seen, plain_call, plain_question, plan_change, question_of, question_with, range_in, reference_in, reference_of, rule_change, submission, taking, terms_change, timed, unnoted};
 
 use input_text::{PrintedFault, read_decimal, split_word, unprint};
 use octets::Octets;
-use schedule::{node_in, price_in, product_in, switches_in};
+use schedule::{cap_in, node_in, price_in, product_in, switches_in};
 use std::alloc::{AllocError, Global};
 use world_setup::Call;
 
@@ -60,8 +61,8 @@ pub(crate) enum Question {
 /// What a line asks; `None` where it spells nothing.
 ///
 /// The lines: `submit TEXT`, `submit-as REFERENCE TEXT`, `tick`, `take FROM TEXT`, `adjudicate FROM ADVICE TEXT`, `stop`, `start`,
-/// `plan PRODUCT PRICE`, `terms FEE COPAY`, `retry SWITCHES AGAIN TRIES`, each also after `at TIME`, and those that change nothing, `answer NUMBER`,
-/// `open NUMBER COUNT`, `count`, `row NUMBER`, `payments NUMBER COUNT`. Texts, references and advices are printed bytes.
+/// `plan PRODUCT PRICE`, `terms FEE COPAY`, `retry SWITCHES AGAIN TRIES`, `cap ENTRIES`, each also after `at TIME`, and those that change nothing,
+/// `answer NUMBER`, `open NUMBER COUNT`, `count`, `row NUMBER`, `payments NUMBER COUNT`. Texts, references and advices are printed bytes.
 ///
 /// # Errors
 /// Memory was refused.
@@ -273,6 +274,9 @@ fn call_with(alloc: Global, word: &[u8], rest: &[u8]) -> Result<Option<Call>, Al
     if word == b"retry".as_slice() {
         return rule_change(alloc, rest);
     }
+    if word == b"cap".as_slice() {
+        return Ok(cap_change(rest));
+    }
     Ok(None)
 }
 
@@ -415,6 +419,14 @@ fn rule_change(alloc: Global, rest: &[u8]) -> Result<Option<Call>, AllocError>
         })),
         None => Ok(None),
     }
+}
+
+/// Another cap.
+fn cap_change(word: &[u8]) -> Option<Call>
+    ensures { result ≡ option_map Cap (cap_in word.now) }
+{
+    let entries = cap_in(word)?;
+    Some(Call::Cap { entries })
 }
 
 /// The number of cents that a word spells.

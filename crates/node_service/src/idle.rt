@@ -20,6 +20,7 @@ pub(crate) fn is_idle_call(state: &NodeState, call: &Call) -> bool
         Call::Plan { .. } => false,
         Call::Terms { .. } => false,
         Call::Retry { .. } => false,
+        Call::Cap { .. } => false,
         Call::Adjudicate { .. } => false,
     }
 }

@@ -9,7 +9,7 @@ ghost use Rattle.node_state.specs.Resting.{IsRecord, IsResting};
 ghost use Rattle.node_service.specs.Answering.{refused_line};
 ghost use Rattle.kept_logs.specs.Fits.{FitsStamped};
 ghost use Rattle.node_service.specs.Lines.{kept_asked, kept_making, line_kept};
-ghost use Rattle.node_service.specs.Most.{most_of};
+ghost use Rattle.node_service.specs.Most.{most_at};
 ghost use Rattle.node_service.specs.Serving.{after_asked, after_call, after_line, again_line, cleared, making, saying, telling};
 ghost use Rattle.node_service.specs.Asking.{Calls, noted_seen};
 ghost use Rattle.node_state.specs.Nodes.{request_of};
@@ -213,9 +213,12 @@ impl Service {
 
     /// The most entries of the pharmacy's journal, slots of the switch's table, or rows of the payer's book.
     pub fn most(&self) -> u32
-        ensures { result ≡ most_of (settings_seen self.now.settings) self.now.node }
+        ensures { result ≡ most_at (settings_seen self.now.settings) self.now.node self.now.state }
     {
-        most_of(self.shared.checked().settings(), self.name)
+        match self.state.switch_cap() {
+            Some(cap) => cap,
+            None => most_of(self.shared.checked().settings(), self.name),
+        }
     }
 
     /// How many calls the node's log has, those included that are to be appended.

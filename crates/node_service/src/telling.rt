@@ -55,6 +55,7 @@ fn put_last(
         Call::Plan { .. } => put_done(out),
         Call::Terms { .. } => put_done(out),
         Call::Retry { .. } => put_done(out),
+        Call::Cap { .. } => put_done(out),
         Call::Adjudicate { .. } => put_done(out),
     }
 }

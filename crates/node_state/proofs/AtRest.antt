@@ -1,9 +1,10 @@
 -- Records of nodes at rest, and what is made of them.
-use Rattle.std.proofs.Common.{◌≡◌, ℕ, ◌<◌, List, length, map, true, Option, Some, None, Result, Ok, refl, sym, ap, ◌∙◌, arith, zero, suc, [], ◌∷◌}
-use Rattle.std.specs.Prelude.{IfNone, option_map, not, slice_get}
+use Rattle.std.proofs.Common.{◌≡◌, ℕ, ◌<◌, List, length, map, true, Option, Some, None, Bool, false, Result, Ok, refl, sym, ap, ◌∙◌, arith, zero, suc, [], ◌∷◌}
+use Rattle.std.specs.Prelude.{◌==◌, IfNone, option_map, not, slice_get}
 use Rattle.std.specs.List.{list_all}
 use Rattle.std.specs.Result.{result_ok}
 use Rattle.std.proofs.lemmas.Bool.{and_parts}
+use Rattle.std.proofs.lemmas.List.{append-nil}
 use Rattle.claim_model.specs.Numbered.{numbered}
 use Rattle.claim_model.specs.Journal.{PharmacySettings, JournalAtRest, started}
 use Rattle.claim_model.specs.Rows.{Book}
@@ -12,6 +13,7 @@ use Rattle.claim_model.specs.Nodes.{OfPharmacy, OfSwitch, OfPayer}
 use Rattle.claim_model.specs.Settings.{WorldSettings, is_empty}
 use Rattle.claim_model.specs.Settings as model
 use Rattle.claim_model.proofs.Options.{same_some}
+use Rattle.claim_model.proofs.Tests.{nat_same}
 use Rattle.claim_model.proofs.Lists.{numbered_map}
 use Rattle.world_setup.specs.declared.settings.PayerSettings.{PayerSettings}
 use Rattle.world_setup.specs.Seen.{payer_seen}
@@ -19,7 +21,11 @@ use Rattle.kept_records.specs.declared.fault.RecordFault.{RecordFault}
 use Rattle.kept_records.specs.Journals.{journal_in}
 use Rattle.kept_records.specs.Books.{book_in}
 use Rattle.node_state.specs.Nodes.{has_node}
-use Rattle.node_state.specs.Resting.{IsRecord, IsResting, resumed_pharmacy, resumed_switch, resumed_payer}
+use Rattle.codec.specs.Codecs.{whole, all_of}
+use Rattle.codec.specs.Fields.{u32_at}
+use Rattle.switch_node.specs.Bytes.{cap_codec}
+use Rattle.switch_node.proofs.CapFormat.{cap_is}
+use Rattle.node_state.specs.Resting.{IsRecord, IsResting, resumed_pharmacy, switch_record, resumed_cap, resumed_switch, resumed_payer}
 
 -- a journal that is read is started
 read_as : (n : ℕ) (bytes : List ℕ) (settings : PharmacySettings) (j : JournalAtRest) → journal_in n settings bytes ≡ Ok j → resumed_pharmacy n bytes (Some settings) ≡ Some (OfPharmacy (Up (started j)))
@@ -33,10 +39,31 @@ pharmacy_record s pharmacies n settings rest bytes same at reads = record {
   starts = λ ctx. refl;
 }
 
-pub switch_record : (s : WorldSettings) (switches : List ℕ) (n cap : ℕ) → s.switches ≡ switches → numbered switches n ≡ Some cap → IsRecord s (Switch n) [] (OfSwitch (AtRest cap))
-switch_record s switches n cap same at = record {
-  begins = OfSwitch (Up (record { cap = cap; entries = [] }));
-  is = ap (λ (caps : List ℕ). resumed_switch [] (numbered caps n)) same ∙ ap (resumed_switch []) at;
+-- a cap has a byte, and is read again
+
+no_bytes : whole cap_codec [] ≡ None
+unfolding cap_codec u32_at
+no_bytes = refl
+
+resumed_as : (given own : ℕ) (bytes : List ℕ) → (own == given) ≡ false → whole cap_codec bytes ≡ Some own → resumed_switch bytes (Some given) ≡ Some (OfSwitch (Up (record { cap = own; entries = [] })))
+resumed_as given own [] other reads = let none = no_bytes in absurd cc
+resumed_as given own (byte ∷ bytes) other reads = ap (resumed_cap given) reads ∙ rw other refl
+
+whole_back : (own : ℕ) → cap_codec.Fits own → whole cap_codec (cap_codec.text own) ≡ Some own
+whole_back own fits =
+    ap (whole cap_codec) (sym (append-nil (cap_codec.text own))) ∙ ap all_of (cap_is.back own [] fits)
+
+record_resumed : (given own : ℕ) → cap_codec.Fits own → resumed_switch (switch_record given own) (Some given) ≡ Some (OfSwitch (Up (record { cap = own; entries = [] })))
+record_resumed given own fits = by_test (own == given) refl
+  where
+    by_test : (b : Bool) → (own == given) ≡ b → resumed_switch (switch_record given own) (Some given) ≡ Some (OfSwitch (Up (record { cap = own; entries = [] })))
+    by_test true same = rw (same, nat_same own given same) refl
+    by_test false other = rw other (resumed_as given own (cap_codec.text own) other (whole_back own fits))
+
+pub switch_recorded : (s : WorldSettings) (switches : List ℕ) (n given own : ℕ) → cap_codec.Fits own → s.switches ≡ switches → numbered switches n ≡ Some given → IsRecord s (Switch n) (switch_record given own) (OfSwitch (AtRest own))
+switch_recorded s switches n given own fits same at = record {
+  begins = OfSwitch (Up (record { cap = own; entries = [] }));
+  is = ap (λ (caps : List ℕ). resumed_switch (switch_record given own) (numbered caps n)) same ∙ (ap (resumed_switch (switch_record given own)) at ∙ record_resumed given own fits);
   starts = λ ctx. refl;
 }
 
@@ -68,9 +95,6 @@ pub pharmacy_unrecorded : (s : WorldSettings) (pharmacies : List PharmacySetting
     → s.pharmacies ≡ pharmacies → numbered pharmacies n ≡ Some settings → (rest.number ≡ n → rest.settings ≡ settings → ⊥) → IsResting s (Pharmacy n) (OfPharmacy (AtRest rest)) → ⊥
 pharmacy_unrecorded s pharmacies n settings rest same at other is =
     other is.0 (same_some rest.settings settings (sym is.1 ∙ (ap (λ (ps : List PharmacySettings). numbered ps n) same ∙ at)))
-
-pub switch_unrecorded : (s : WorldSettings) (switches : List ℕ) (n cap own : ℕ) → s.switches ≡ switches → numbered switches n ≡ Some cap → (own ≡ cap → ⊥) → IsResting s (Switch n) (OfSwitch (AtRest own)) → ⊥
-switch_unrecorded s switches n cap own same at other is = other (same_some own cap (sym is ∙ (ap (λ (caps : List ℕ). numbered caps n) same ∙ at)))
 
 pub payer_unrecorded : (s : WorldSettings) (payers : List PayerSettings) (n : ℕ) (p : PayerSettings) (rest : Book)
     → s.payers ≡ map payer_seen payers → numbered payers n ≡ Some p → (rest.payer ≡ n → rest.settings ≡ p.book → ⊥) → IsResting s (Payer n) (OfPayer (AtRest rest)) → ⊥

@@ -24,6 +24,16 @@ abbrev pub slots_in : Power Table ℕ → ℕ
 slots_in (Up t) = length t.entries
 slots_in (AtRest cap) = 0
 
+-- the cap of a switch, up or at rest; none of another node
+abbrev pub cap_at : Power Table ℕ → ℕ
+cap_at (Up t) = t.cap
+cap_at (AtRest cap) = cap
+
+abbrev pub switch_cap : AnyNode → Option ℕ
+switch_cap (OfPharmacy node) = None
+switch_cap (OfSwitch node) = Some (cap_at node)
+switch_cap (OfPayer node) = None
+
 -- how many entries a pharmacy's journal has, slots a switch's table, or rows a payer's book
 abbrev pub size_of : AnyNode → ℕ
 size_of (OfPharmacy node) = length (journal_in node).entries

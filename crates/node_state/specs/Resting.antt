@@ -1,5 +1,5 @@
 -- A node that is started from what it left at rest: the bytes of its record, beside the settings of its world.
-use Rattle.std.specs.Prelude.{◌≡◌, ℕ, Bool, not, List, [], ◌∷◌, Option, Some, None}
+use Rattle.std.specs.Prelude.{◌≡◌, ℕ, ◌==◌, Bool, true, not, List, [], ◌∷◌, Option, Some, None, is_some, if◌then◌else◌}
 use Rattle.std.specs.Option.{option_map}
 use Rattle.std.specs.Result.{result_ok}
 use Rattle.claim_model.specs.Context.{Context}
@@ -12,6 +12,8 @@ use Rattle.claim_model.specs.Nodes.{AnyNode, OfPharmacy, OfSwitch, OfPayer, node
 use Rattle.claim_model.specs.Settings.{WorldSettings, PayerSettings}
 use Rattle.kept_records.specs.Journals.{journal_in}
 use Rattle.kept_records.specs.Books.{book_in}
+use Rattle.codec.specs.Codecs.{whole}
+use Rattle.switch_node.specs.Bytes.{cap_codec}
 use Rattle.node_state.specs.Sends.{is_up}
 
 -- the pharmacy of this number and these settings, started with the journal that bytes are the record of
@@ -19,11 +21,18 @@ abbrev pub resumed_pharmacy : ℕ → List ℕ → Option PharmacySettings → O
 resumed_pharmacy number bytes None = None
 resumed_pharmacy number bytes (Some settings) = option_map (λ j. OfPharmacy (Up (started j))) (result_ok (journal_in number settings bytes))
 
--- a switch keeps nothing but its settings, so its record has no byte
+-- a switch keeps nothing but its cap: its record has no byte where that is the one which its settings give, and else those of the cap
+abbrev pub switch_record : ℕ → ℕ → List ℕ
+switch_record given own = if own == given then [] else cap_codec.text own
+
+abbrev pub resumed_cap : ℕ → Option ℕ → Option AnyNode
+resumed_cap given None = None
+resumed_cap given (Some own) = if own == given then None else Some (OfSwitch (Up (record { cap = own; entries = [] })))
+
 abbrev pub resumed_switch : List ℕ → Option ℕ → Option AnyNode
 resumed_switch bytes None = None
 resumed_switch [] (Some cap) = Some (OfSwitch (Up (record { cap = cap; entries = [] })))
-resumed_switch (byte ∷ bytes) (Some cap) = None
+resumed_switch (byte ∷ bytes) (Some cap) = resumed_cap cap (whole cap_codec (byte ∷ bytes))
 
 -- the payer of this number and these settings, started with the book that bytes are the record of
 abbrev pub resumed_payer : ℕ → List ℕ → Option PayerSettings → Option AnyNode
@@ -47,10 +56,10 @@ abbrev pub rests_as_pharmacy : ℕ → Option PharmacySettings → Power Journal
 rests_as_pharmacy number settings (Up j) = ⊥
 rests_as_pharmacy number settings (AtRest j) = (j.number ≡ number) × (settings ≡ Some j.settings)
 
--- a switch is at rest, and has this cap
+-- a switch is at rest, and the settings give it a cap; its own may be another
 abbrev pub rests_as_switch : Option ℕ → Power Table ℕ → Type 0
-rests_as_switch cap (Up t) = ⊥
-rests_as_switch cap (AtRest own) = cap ≡ Some own
+rests_as_switch given (Up t) = ⊥
+rests_as_switch given (AtRest own) = is_some given ≡ true
 
 -- a payer is at rest, and its book has this number and the settings of this payer
 abbrev pub rests_as_payer : ℕ → Option PayerSettings → Power Book Book → Type 0

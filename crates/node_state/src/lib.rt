@@ -19,6 +19,7 @@ mod resumed;
 mod sending;
 mod state;
 mod switch;
+mod switch_rest;
 
 pub use book_reading::BookReading;
 pub use journal_reading::JournalReading;

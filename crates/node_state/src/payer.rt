@@ -79,7 +79,7 @@ impl Kind for Book {
                 bytes,
                 advice,
             } => adjudicate(alloc, self, routes, from, bytes, advice),
-            Call::Submit(_) | Call::Tick | Call::Retry { .. } => {
+            Call::Submit(_) | Call::Tick | Call::Retry { .. } | Call::Cap { .. } => {
                 Err(Fault::Refused(Refusal::NoSuchNode))
             }
             Call::Take { .. } | Call::Stop | Call::Start => unreachable!(),
@@ -94,12 +94,16 @@ impl Kind for Book {
         rest.start(alloc)
     }
 
-    fn down(call: Call<&Octets>) -> Fault {
+    fn revise(
+        _alloc: Global,
+        _rest: &mut BookBytes,
+        call: Call<&Octets>,
+    ) -> Result<Vec<Sent>, Fault> {
         match call {
             Call::Plan { .. } | Call::Terms { .. } | Call::Adjudicate { .. } => {
-                Fault::Refused(Refusal::Down)
+                Err(Fault::Refused(Refusal::Down))
             }
-            _ => Fault::Refused(Refusal::NoSuchNode),
+            _ => Err(Fault::Refused(Refusal::NoSuchNode)),
         }
     }
 

@@ -78,9 +78,9 @@ impl Kind for Pharmacy {
                 again,
                 tries,
             } => change_rule(alloc, self, routes, nodes.as_slice(), again, tries),
-            Call::Plan { .. } | Call::Terms { .. } | Call::Adjudicate { .. } => Err(Fault::Refused(
-                Refusal::NoSuchNode,
-            )),
+            Call::Plan { .. } | Call::Terms { .. } | Call::Cap { .. } | Call::Adjudicate { .. } => {
+                Err(Fault::Refused(Refusal::NoSuchNode))
+            }
             Call::Take { .. } | Call::Stop | Call::Start => unreachable!(),
         }
     }
@@ -93,12 +93,16 @@ impl Kind for Pharmacy {
         rest.start(alloc)
     }
 
-    fn down(call: Call<&Octets>) -> Fault {
+    fn revise(
+        _alloc: Global,
+        _rest: &mut JournalBytes,
+        call: Call<&Octets>,
+    ) -> Result<Vec<Sent>, Fault> {
         match call {
-            Call::Plan { .. } | Call::Terms { .. } | Call::Adjudicate { .. } => Fault::Refused(
-                Refusal::NoSuchNode,
-            ),
-            _ => Fault::Refused(Refusal::Down),
+            Call::Plan { .. } | Call::Terms { .. } | Call::Cap { .. } | Call::Adjudicate { .. } => {
+                Err(Fault::Refused(Refusal::NoSuchNode))
+            }
+            _ => Err(Fault::Refused(Refusal::Down)),
         }
     }
 

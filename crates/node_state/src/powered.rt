@@ -92,11 +92,15 @@ pub trait Kind: Drop + Sized {
         ensures { (routes : RouteMaps)
             → IfOk result (λ node. step routes (AtRest rest.now) Start ≡ Done (Up node) []) };
 
-    /// Why one at rest does not make a call that is no packet and does not start it.
-    fn down(call: Call<&Octets>) -> Fault
+    /// Makes a call that is no packet, and neither stops nor starts it, of what is kept of it at rest; nothing is sent.
+    fn revise(alloc: Global, rest: &mut Self::Rest, call: Call<&Octets>) -> Result<Vec<Sent>, Fault>
         requires { asks (lent_seen call) ≡ true }
-        ensures { (routes : RouteMaps) (rest : Self.Rest)
-            → RefusedAs (refusal_of result) (step routes (AtRest rest) (lent_seen call.entry)) };
+        ensures ok { (routes : RouteMaps)
+            → Makes (step routes (AtRest rest.old) (lent_seen call.entry)) (AtRest rest.new) result }
+        ensures few { IfOk result (λ sent. length sent.items ≤ 0) }
+        ensures fault { (routes : RouteMaps)
+            → Refuses (step routes (AtRest rest.old) (lent_seen call.entry)) result }
+        ensures err { OnErr result (rest.new ≡ rest.old) };
 
     /// A packet is taken as its envelope is.
     ghost reads: { (routes : RouteMaps) (node : Self) (from : ModelNode) (bytes : List ℕ)
@@ -179,7 +183,7 @@ impl<K: Kind> Powered<K> {
             Call::Take { from, bytes } => self.take(alloc, routes, from, bytes),
             _ => match &mut self.state {
                 State::Up(node) => node.ask(alloc, routes, call),
-                State::AtRest(_) => Err(K::down(call)),
+                State::AtRest(rest) => K::revise(alloc, rest, call),
             },
         }
     }

@@ -59,7 +59,7 @@ impl PharmacyNode {
 }
 
 impl SwitchNode {
-    /// The bytes of its record, of which there are none, where it is at rest and has the settings of this number.
+    /// The bytes of its record, where it is at rest and there are settings of this number.
     fn record_under(&self, switches: &[SwitchSettings], number: u16) -> Option<&[u8]>
         ensures record { (s : WorldSettings) → s.switches ≡ switches.now
             → IfSome (option_copied result) (λ bytes. IsRecord s (Switch number) bytes (OfSwitch self.now)) }
@@ -69,13 +69,7 @@ impl SwitchNode {
         let settings = of_number(switches, number)?;
         match &self.state {
             State::Up(_) => None,
-            State::AtRest(kept) => {
-                if kept.cap() == settings.cap() {
-                    Some(&[])
-                } else {
-                    None
-                }
-            }
+            State::AtRest(kept) => Some(kept.record_under(*settings)),
         }
     }
 }

@@ -20,7 +20,7 @@ use kept_records::{RecordFault, read_book_keyed, read_journal};
 use payer_book::Book;
 use pharmacy_journal::PharmacySettings;
 use std::alloc::{AllocError, Global};
-use switch_node::SwitchSettings;
+use switch_node::{SwitchSettings, read_cap};
 use world_setup::{CheckedSettings, Node, PayerSettings};
 
 impl NodeState {
@@ -76,7 +76,7 @@ fn pharmacy_resumed(
     }
 }
 
-/// The switch of a number, started from a record that has no byte.
+/// The switch of a number, started from its record: with its settings, or with a cap that is another than theirs.
 fn switch_resumed(
     alloc: Global,
     switches: &[SwitchSettings],
@@ -86,10 +86,14 @@ fn switch_resumed(
     ensures { result ≡ resumed_switch kept.now (numbered switches.now number) }
 {
     let settings = of_number(switches, number)?;
-    if !kept.is_empty() {
+    if kept.is_empty() {
+        return Some(NodeState::switch(SwitchNode::new(alloc, *settings)));
+    }
+    let own = read_cap(kept)?;
+    if own.cap() == settings.cap() {
         return None;
     }
-    Some(NodeState::switch(SwitchNode::new(alloc, *settings)))
+    Some(NodeState::switch(SwitchNode::new(alloc, own)))
 }
 
 /// The payer of a number, started from the record of its book.

@@ -6,7 +6,7 @@ ghost use Rattle.claim_model.specs.Bytes.{bytes_with};
 ghost use Rattle.world_setup.specs.Seen.{call_seen};
 ghost use Rattle.node_state.specs.Any.{any_seen};
 ghost use Rattle.node_state.specs.Outcomes.{Makes, Refuses};
-ghost use Rattle.node_state.specs.Nodes.{OfPharmacy, OfSwitch, OfPayer, node_step, entries_of, size_of, is_idle_node, journal_of, book_of, request_of, held_of};
+ghost use Rattle.node_state.specs.Nodes.{OfPharmacy, OfSwitch, OfPayer, node_step, entries_of, size_of, is_idle_node, journal_of, book_of, request_of, held_of, switch_cap};
 
 use crate::book_reading::BookReading;
 use crate::held::copied;
@@ -134,6 +134,17 @@ impl NodeState {
             StateKind::Pharmacy(node) => Ok(node.journal(alloc)?.entries()),
             StateKind::Switch(_) => Ok(0),
             StateKind::Payer(_) => Ok(0),
+        }
+    }
+
+    /// The most slots of a switch's table, up or at rest; none of another node.
+    pub fn switch_cap(&self) -> Option<u32>
+        ensures { result ≡ switch_cap self.now }
+    {
+        match &self.kind {
+            StateKind::Pharmacy(_) => None,
+            StateKind::Switch(node) => Some(node.cap()),
+            StateKind::Payer(_) => None,
         }
     }
 

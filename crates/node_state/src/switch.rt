@@ -11,11 +11,12 @@ ghost use Rattle.switch_node.specs.Steps.{IsReadableRequest, IsReadableResponse}
 ghost use Rattle.node_state.specs.Outcomes.{Makes, Refuses};
 ghost use Rattle.node_state.specs.Sends.{in_flight_at};
 ghost use Rattle.node_state.specs.Taking.{switch_handles, switch_requests, switch_responds, switch_reads};
-ghost use Rattle.node_state.specs.Nodes.{slots_in};
+ghost use Rattle.node_state.specs.Nodes.{cap_at, slots_in};
 
 use crate::opening::is_request;
 use crate::powered::{Kind, Powered, State};
 use crate::sending::{to_payer_or_back, to_pharmacy};
+use crate::switch_rest::SwitchRest;
 use bin_routes::Routes;
 use envelope::{Envelope, TxnId};
 use octets::Octets;
@@ -23,11 +24,11 @@ use std::alloc::{AllocError, Global};
 use switch_node::{InFlight, Switch, SwitchSettings};
 use world_setup::{Call, Fault, Node, Refusal, Sent};
 
-/// A switch, up or at rest. At rest it has its settings alone: a stop loses the table.
+/// A switch, up or at rest. At rest it has its cap alone: a stop loses the table.
 pub type SwitchNode = Powered<Switch>;
 
 impl Kind for Switch {
-    type Rest = SwitchSettings;
+    type Rest = SwitchRest;
 
     ghost step = { λ routes node call. switch_step (bytes_with routes) node call };
 
@@ -67,7 +68,7 @@ impl Kind for Switch {
         }
     }
 
-    /// All other calls are for nodes of other kinds.
+    /// Its table has its cap for as long as it is up. All other calls are for nodes of other kinds.
     fn ask(
         &mut self,
         _alloc: Global,
@@ -81,28 +82,38 @@ impl Kind for Switch {
             | Call::Terms { .. }
             | Call::Retry { .. }
             | Call::Adjudicate { .. } => { Err(Fault::Refused(Refusal::NoSuchNode)) }
+            Call::Cap { .. } => Err(Fault::Refused(Refusal::AlreadyUp)),
             Call::Take { .. } | Call::Stop | Call::Start => unreachable!(),
         }
     }
 
     /// Its settings: the table is lost.
-    fn save(&self, _alloc: Global) -> Result<SwitchSettings, AllocError> {
-        Ok(self.settings())
+    fn save(&self, _alloc: Global) -> Result<SwitchRest, AllocError> {
+        Ok(SwitchRest::new(self.settings()))
     }
 
     /// A switch with an empty table.
-    fn wake(alloc: Global, rest: &SwitchSettings) -> Result<Switch, AllocError> {
-        Ok(Switch::new(alloc, *rest))
+    fn wake(alloc: Global, rest: &SwitchRest) -> Result<Switch, AllocError> {
+        Ok(Switch::new(alloc, rest.settings()))
     }
 
-    fn down(call: Call<&Octets>) -> Fault {
+    /// Another cap, with which it starts.
+    fn revise(
+        alloc: Global,
+        rest: &mut SwitchRest,
+        call: Call<&Octets>,
+    ) -> Result<Vec<Sent>, Fault> {
         match call {
+            Call::Cap { entries } => {
+                *rest = SwitchRest::new(SwitchSettings::nearest(entries));
+                Ok(Vec::new(alloc))
+            }
             Call::Submit(_)
             | Call::Tick
             | Call::Plan { .. }
             | Call::Terms { .. }
             | Call::Retry { .. }
-            | Call::Adjudicate { .. } => { Fault::Refused(Refusal::NoSuchNode) }
+            | Call::Adjudicate { .. } => { Err(Fault::Refused(Refusal::NoSuchNode)) }
             Call::Take { .. } | Call::Stop | Call::Start => unreachable!(),
         }
     }
@@ -221,6 +232,16 @@ impl SwitchNode {
         match &self.state {
             State::Up(switch) => switch.list(),
             State::AtRest(_) => Ok(Vec::new(alloc)),
+        }
+    }
+
+    /// The most requests in its table, up or at rest.
+    pub(crate) fn cap(&self) -> u32
+        ensures { result ≡ cap_at self.now }
+    {
+        match &self.state {
+            State::Up(switch) => switch.settings().cap(),
+            State::AtRest(rest) => rest.settings().cap(),
         }
     }
 

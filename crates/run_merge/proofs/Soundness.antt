@@ -8,7 +8,7 @@ use Rattle.claim_model.specs.Numbered.{numbered}
 use Rattle.claim_model.specs.Journal.{Journal, JournalAtRest, RetryRule}
 use Rattle.claim_model.specs.Table.{Table}
 use Rattle.claim_model.specs.Rows.{Book}
-use Rattle.claim_model.specs.Node.{Node, Pharmacy, Switch, Payer, Call, Submit, Tick, Take, Stop, Start, Revise, Revision, OfPlan, OfRule, Adjudicate, Power, Up, AtRest, Sent, Outcome, Done, Refused, pharmacy_step, switch_step, payer_step}
+use Rattle.claim_model.specs.Node.{Node, Pharmacy, Switch, Payer, Call, Submit, Tick, Take, Stop, Start, Revise, Revision, OfPlan, OfRule, OfCap, Adjudicate, Power, Up, AtRest, Sent, Outcome, Done, Refused, pharmacy_step, switch_step, payer_step}
 use Rattle.claim_model.specs.World.{World, Packet, Event, posted, on_node, step, world_after, run}
 use Rattle.claim_model.specs.Nodes.{AnyNode, OfPharmacy, OfSwitch, OfPayer, as_node, node_step, node_at, called, same_node, Asked, asked, asked_step}
 use Rattle.claim_model.specs.Local.{Follows}
@@ -172,9 +172,29 @@ not_rule : (ctx : Context) (node : Power Book Book) (rule : RetryRule) (after : 
 not_rule ctx (Up b) rule after sent h = absurd cc
 not_rule ctx (AtRest b) rule after sent h = absurd cc
 
-not_revision : (ctx : Context) (node : Power Table ℕ) (revision : Revision) (after : AnyNode) (sent : List Sent) → as_node OfSwitch (switch_step ctx node (Revise revision)) ≡ Done after sent → false ≡ true
-not_revision ctx (Up t) revision after sent h = absurd cc
-not_revision ctx (AtRest cap) revision after sent h = absurd cc
+not_revision : (ctx : Context) (n : ℕ) (node : Power Table ℕ) (revision : Revision) (after : AnyNode) (sent : List Sent) → as_node OfSwitch (switch_step ctx node (Revise revision)) ≡ Done after sent → revises (Switch n) revision ≡ true
+not_revision ctx n (Up t) revision after sent h = absurd cc
+not_revision ctx n (AtRest cap) (OfPlan change) after sent h = absurd cc
+not_revision ctx n (AtRest cap) (OfRule rule) after sent h = absurd cc
+not_revision ctx n (AtRest cap) (OfCap most) after sent h = refl
+
+not_cap : (ctx : Context) (node : Power Journal JournalAtRest) (most : ℕ) (after : AnyNode) (sent : List Sent) → as_node OfPharmacy (pharmacy_step ctx node (Revise (OfCap most))) ≡ Done after sent → false ≡ true
+not_cap ctx (Up j) most after sent h = absurd cc
+not_cap ctx (AtRest j) most after sent h = absurd cc
+
+no_cap : (ctx : Context) (node : Power Book Book) (most : ℕ) (after : AnyNode) (sent : List Sent) → as_node OfPayer (payer_step ctx node (Revise (OfCap most))) ≡ Done after sent → false ≡ true
+no_cap ctx (Up b) most after sent h = absurd cc
+no_cap ctx (AtRest b) most after sent h = absurd cc
+
+capped_at : (ctx : Context) (o : Option (Power Journal JournalAtRest)) (most : ℕ) (before after : AnyNode) (sent : List Sent) → option_map OfPharmacy o ≡ Some before → node_step ctx before (Revise (OfCap most)) ≡ Done after sent → false ≡ true
+capped_at ctx None most before after sent was h = absurd cc
+capped_at ctx (Some node) most before after sent was h =
+    not_cap ctx node most after sent (ap (λ x. node_step ctx x (Revise (OfCap most))) (same_some (OfPharmacy node) before was) ∙ h)
+
+book_capped_at : (ctx : Context) (o : Option (Power Book Book)) (most : ℕ) (before after : AnyNode) (sent : List Sent) → option_map OfPayer o ≡ Some before → node_step ctx before (Revise (OfCap most)) ≡ Done after sent → false ≡ true
+book_capped_at ctx None most before after sent was h = absurd cc
+book_capped_at ctx (Some node) most before after sent was h =
+    no_cap ctx node most after sent (ap (λ x. node_step ctx x (Revise (OfCap most))) (same_some (OfPayer node) before was) ∙ h)
 
 planned_at : (ctx : Context) (o : Option (Power Journal JournalAtRest)) (change : Change) (before after : AnyNode) (sent : List Sent) → option_map OfPharmacy o ≡ Some before → node_step ctx before (Revise (OfPlan change)) ≡ Done after sent → false ≡ true
 planned_at ctx None change before after sent was h = absurd cc
@@ -186,17 +206,19 @@ ruled_at ctx None rule before after sent was h = absurd cc
 ruled_at ctx (Some node) rule before after sent was h =
     not_rule ctx node rule after sent (ap (λ x. node_step ctx x (Revise (OfRule rule))) (same_some (OfPayer node) before was) ∙ h)
 
-revised_at : (ctx : Context) (o : Option (Power Table ℕ)) (revision : Revision) (before after : AnyNode) (sent : List Sent) → option_map OfSwitch o ≡ Some before → node_step ctx before (Revise revision) ≡ Done after sent → false ≡ true
-revised_at ctx None revision before after sent was h = absurd cc
-revised_at ctx (Some node) revision before after sent was h =
-    not_revision ctx node revision after sent (ap (λ x. node_step ctx x (Revise revision)) (same_some (OfSwitch node) before was) ∙ h)
+revised_at : (ctx : Context) (n : ℕ) (o : Option (Power Table ℕ)) (revision : Revision) (before after : AnyNode) (sent : List Sent) → option_map OfSwitch o ≡ Some before → node_step ctx before (Revise revision) ≡ Done after sent → revises (Switch n) revision ≡ true
+revised_at ctx n None revision before after sent was h = absurd cc
+revised_at ctx n (Some node) revision before after sent was h =
+    not_revision ctx n node revision after sent (ap (λ x. node_step ctx x (Revise revision)) (same_some (OfSwitch node) before was) ∙ h)
 
 suited_revision : (ctx : Context) (w : World) (node : Node) (revision : Revision) (before after : AnyNode) (sent : List Sent) → node_at w node ≡ Some before → node_step ctx before (Revise revision) ≡ Done after sent → revises node revision ≡ true
 suited_revision ctx w (Pharmacy n) (OfPlan change) before after sent was h = planned_at ctx (numbered w.pharmacies n) change before after sent was h
 suited_revision ctx w (Pharmacy n) (OfRule rule) before after sent was h = refl
-suited_revision ctx w (Switch n) revision before after sent was h = revised_at ctx (numbered w.switches n) revision before after sent was h
+suited_revision ctx w (Pharmacy n) (OfCap most) before after sent was h = capped_at ctx (numbered w.pharmacies n) most before after sent was h
+suited_revision ctx w (Switch n) revision before after sent was h = revised_at ctx n (numbered w.switches n) revision before after sent was h
 suited_revision ctx w (Payer n) (OfPlan change) before after sent was h = refl
 suited_revision ctx w (Payer n) (OfRule rule) before after sent was h = ruled_at ctx (numbered w.payers n) rule before after sent was h
+suited_revision ctx w (Payer n) (OfCap most) before after sent was h = book_capped_at ctx (numbered w.payers n) most before after sent was h
 
 -- a call that a node accepted is one that suits it
 suited : (ctx : Context) (w : World) (node : Node) (call : Call) (before after : AnyNode) (sent : List Sent) → node_at w node ≡ Some before → node_step ctx before call ≡ Done after sent → suits node call ≡ true

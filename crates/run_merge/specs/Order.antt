@@ -1,6 +1,6 @@
 -- Ordering the calls of logs: which event makes a call, and what is left after it.
 use Rattle.std.specs.Prelude.{◌≡◌, ℕ, ◌+◌, Bool, true, false, cond, List, [], ◌∷◌, length, Some}
-use Rattle.claim_model.specs.Node.{Node, Pharmacy, Switch, Payer, Call, Submit, Tick, Take, Stop, Start, Revise, Revision, OfPlan, OfRule, Adjudicate}
+use Rattle.claim_model.specs.Node.{Node, Pharmacy, Switch, Payer, Call, Submit, Tick, Take, Stop, Start, Revise, Revision, OfPlan, OfRule, OfCap, Adjudicate}
 use Rattle.claim_model.specs.World.{Packet, Event, posted}
 use Rattle.claim_model.specs.Nodes.{same_node, asked}
 use Rattle.claim_model.specs.Logs.{Logged, NodeLog}
@@ -9,13 +9,17 @@ use Rattle.claim_model.specs.Logs.{Logged, NodeLog}
 abbrev pub advanced : (Node → List Logged) → Node → List Logged → Node → List Logged
 advanced rest node more m = cond (same_node node m) more (rest m)
 
--- a plan is a payer's, and a rule of retries a pharmacy's
+-- a plan is a payer's, a rule of retries a pharmacy's, and a cap a switch's
 abbrev pub revises : Node → Revision → Bool
 revises (Pharmacy n) (OfPlan change) = false
 revises (Pharmacy n) (OfRule rule) = true
-revises (Switch n) revision = false
+revises (Pharmacy n) (OfCap most) = false
+revises (Switch n) (OfPlan change) = false
+revises (Switch n) (OfRule rule) = false
+revises (Switch n) (OfCap most) = true
 revises (Payer n) (OfPlan change) = true
 revises (Payer n) (OfRule rule) = false
+revises (Payer n) (OfCap most) = false
 
 -- a node of this kind may accept a call of this kind, as far as revisions go
 abbrev pub suits : Node → Call → Bool

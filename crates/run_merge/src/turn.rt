@@ -1,9 +1,10 @@
 //! Which event makes a call.
 
 ghost use Rattle.std.specs.Prelude.{IfOk};
-ghost use Rattle.claim_model.specs.Node.{Submit, Tick, Take, Stop, Start, Revise, OfPlan, OfRule, Adjudicate};
+ghost use Rattle.claim_model.specs.Node.{Submit, Tick, Take, Stop, Start, Revise, OfPlan, OfRule, OfCap, Adjudicate};
 ghost use Rattle.claim_model.specs.Words.{SetPrice, SetTerms};
 ghost use Rattle.pharmacy_journal.specs.Ruling.{rule_in};
+ghost use Rattle.switch_node.specs.Settings.{nearest};
 ghost use Rattle.world_setup.specs.Seen.{node_seen, call_seen};
 ghost use Rattle.run_merge.specs.Found.{EventFor};
 
@@ -34,6 +35,7 @@ pub(crate) fn event_for<'a>(
             again,
             tries,
         } => retry(posted, node, nodes, *again, *tries),
+        Call::Cap { entries } => Ok(cap(posted, node, *entries)),
         Call::Adjudicate {
             from,
             bytes,
@@ -147,5 +149,16 @@ fn retry(
         })),
         Node::Switch(_) => Ok(None),
         Node::Payer(_) => Ok(None),
+    }
+}
+
+/// Another cap, at a switch.
+fn cap(posted: &Posted<'_>, node: Node, entries: u32) -> Option<Event>
+    ensures { EventFor posted.now (node_seen node) (Revise (OfCap (nearest entries))) result }
+{
+    match node {
+        Node::Switch(switch) => Some(Event::Cap { switch, entries }),
+        Node::Pharmacy(_) => None,
+        Node::Payer(_) => None,
     }
 }

@@ -2,7 +2,7 @@
 
 use crate::Mark;
 use crate::labels::put_advice;
-use crate::lettering::{put_change, put_event, put_rule, put_terms};
+use crate::lettering::{put_cap, put_change, put_event, put_rule, put_terms};
 use crate::plan::Plan;
 use crate::rows::event_of;
 use input_text::put_decimal;
@@ -62,7 +62,7 @@ pub(crate) fn refusal_of(alloc: Global, fault: Fault) -> Result<Vec<u8>, AllocEr
     Ok(words)
 }
 
-/// The note of a change of a plan, or of a rule of retries.
+/// The note of a change of a plan, of a rule of retries, or of a cap.
 pub(crate) fn note_of(alloc: Global, events: &[Event], event: u64) -> Result<Vec<u8>, AllocError> {
     let mut note = Vec::new(alloc);
     if let Some(event) = event_of(events, event) {
@@ -71,7 +71,7 @@ pub(crate) fn note_of(alloc: Global, events: &[Event], event: u64) -> Result<Vec
     Ok(note)
 }
 
-/// Appends what a change of a plan or of a rule of retries says; nothing of another event.
+/// Appends what a change of a plan, of a rule of retries or of a cap says; nothing of another event.
 fn put_note(note: &mut Vec<u8>, event: &Event) -> Result<(), AllocError> {
     match event {
         Event::Plan { product, price, .. } => put_change(note, product.as_slice(), *price),
@@ -82,6 +82,7 @@ fn put_note(note: &mut Vec<u8>, event: &Event) -> Result<(), AllocError> {
             tries,
             ..
         } => put_rule(note, nodes.as_slice(), *again, *tries),
+        Event::Cap { entries, .. } => put_cap(note, *entries),
         _ => Ok(()),
     }
 }

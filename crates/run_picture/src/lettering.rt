@@ -62,6 +62,7 @@ pub(crate) fn put_event(out: &mut Vec<u8>, event: &Event) -> Result<(), AllocErr
         Event::Plan { payer, .. } => put_call(out, b"plan ", Node::Payer(*payer)),
         Event::Terms { payer, .. } => put_call(out, b"terms ", Node::Payer(*payer)),
         Event::Retry { pharmacy, .. } => put_call(out, b"retry ", Node::Pharmacy(*pharmacy)),
+        Event::Cap { switch, .. } => put_call(out, b"cap ", Node::Switch(*switch)),
         Event::Adjudicate { packet, .. } => {
             out.extend_from_slice(b"adjudicate ")?;
             put_decimal(out, *packet)
@@ -96,6 +97,12 @@ pub(crate) fn put_terms(out: &mut Vec<u8>, fee: u32, copay: u32) -> Result<(), A
     put_dollars(out, fee)?;
     out.extend_from_slice(b", copay ")?;
     put_dollars(out, copay)
+}
+
+/// Appends what another cap says: how many requests the table has at most.
+pub(crate) fn put_cap(out: &mut Vec<u8>, cap: u32) -> Result<(), AllocError> {
+    out.extend_from_slice(b"at most ")?;
+    put_decimal(out, u64::from(cap))
 }
 
 /// Appends what another rule of retries says: the switches in turn, and how long and how often each.

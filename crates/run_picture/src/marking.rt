@@ -103,6 +103,10 @@ fn made_mark(number: u64, event: &Event) -> Mark
             event: number,
             node: Node::Pharmacy(*pharmacy),
         },
+        Event::Cap { switch, .. } => Mark::Revised {
+            event: number,
+            node: Node::Switch(*switch),
+        },
         Event::Adjudicate { packet: taken, .. } => Mark::Arrived {
             event: number,
             packet: *taken,

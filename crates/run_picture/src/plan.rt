@@ -109,5 +109,6 @@ fn node_of(event: &Event) -> Option<Node> {
         Event::Start(node) => Some(*node),
         Event::Plan { payer, .. } | Event::Terms { payer, .. } => Some(Node::Payer(*payer)),
         Event::Retry { pharmacy, .. } => Some(Node::Pharmacy(*pharmacy)),
+        Event::Cap { switch, .. } => Some(Node::Switch(*switch)),
     }
 }

@@ -1,4 +1,4 @@
--- Events of which none is an adjudication or a change of terms or of a rule of retries are spelled by the same lines where nodes do not live.
+-- Events of which none is an adjudication or a change of terms, of a rule of retries or of a cap are spelled by the same lines where nodes do not live.
 use Rattle.std.proofs.Common.{◌≡◌, ℕ, Bool, true, false, cond, List, [], ◌∷◌, Option, Some, None, Result, Ok, Err, refl, sym, ap, ◌∙◌}
 use Rattle.std.specs.Prelude.{bytes_eq, codes}
 use Rattle.std.specs.Result.{result_ok}
@@ -8,10 +8,10 @@ use Rattle.input_text.specs.Words.{split_word}
 use Rattle.input_text.specs.Decimals.{decimal_number}
 use Rattle.input_text.specs.Printing.{unprinted}
 use Rattle.world_setup.specs.declared.event.Event.{Event}
-use Rattle.world_setup.specs.declared.event.Event.TheVariants.{Terms, Retry, Adjudicate}
-use Rattle.schedule.specs.Nodes.{pharmacy_in, payer_in}
+use Rattle.world_setup.specs.declared.event.Event.TheVariants.{Terms, Retry, Cap, Adjudicate}
+use Rattle.schedule.specs.Nodes.{pharmacy_in, switch_in, payer_in}
 use Rattle.schedule.specs.Switches.{switches_in}
-use Rattle.schedule.specs.Events.{event_with, event_of, adjudication, cents_in, terms_change, rule_change, living_event_with, living_event_of, has_no_advice, have_no_advice}
+use Rattle.schedule.specs.Events.{event_with, event_of, adjudication, cents_in, terms_change, rule_change, cap_in, cap_change, living_event_with, living_event_of, has_no_advice, have_no_advice}
 use Rattle.schedule.specs.Reading.{NumberedLine, told_lines, spelled_in}
 use Rattle.schedule.proofs.EventLists.{joined, first_taken, first_bad, no_lines}
 
@@ -66,11 +66,30 @@ reruled rest e is plain =
     (λ words listed. behind (switches_in words.0) _ e listed (λ nodes numbered. behind (split_word words.1) _ e numbered
     (λ numbers first. behind (cents_in numbers.0) _ e first (λ again second. behind (cents_in numbers.1) _ e second (λ tries last. of_rule pharmacy nodes again tries e last plain)))))))
 
-by_rule : (word rest : List ℕ) (e : Event) (b : Bool) → bytes_eq word (codes "retry") ≡ b → cond (bytes_eq word (codes "retry")) (rule_change rest) (event_with word rest) ≡ Some e → has_no_advice e ≡ true → event_with word rest ≡ Some e
-by_rule word rest e true same is plain = absurd (reruled rest e (sym (rw same refl) ∙ is) plain)
-by_rule word rest e false same is plain = sym (rw same refl) ∙ is
+-- nor is what stands after `cap`
+of_cap : (switch cap : ℕ) (e : Event) → ◌≡◌ {A = Option Event} (Some (Cap switch cap)) (Some e) → has_no_advice e ≡ true → ⊥
+of_cap switch cap e is plain =
+    let same : Cap switch cap ≡ e = cc in
+    let wrong : false ≡ true = ap has_no_advice same ∙ plain in
+    absurd cc
 
-by_terms : (word rest : List ℕ) (e : Event) (b : Bool) → bytes_eq word (codes "terms") ≡ b → cond (bytes_eq word (codes "terms")) (terms_change rest) (cond (bytes_eq word (codes "retry")) (rule_change rest) (event_with word rest)) ≡ Some e → has_no_advice e ≡ true → event_with word rest ≡ Some e
+recapped : (rest : List ℕ) (e : Event) → cap_change rest ≡ Some e → has_no_advice e ≡ true → ⊥
+unfolding cap_change
+recapped rest e is plain =
+    behind (split_word rest) _ e is (λ p named. behind (switch_in p.0) _ e named (λ switch worded. behind (cap_in p.1) _ e worded (λ cap last. of_cap switch cap e last plain)))
+
+by_cap : (word rest : List ℕ) (e : Event) (b : Bool) → bytes_eq word (codes "cap") ≡ b → cond (bytes_eq word (codes "cap")) (cap_change rest) (event_with word rest) ≡ Some e → has_no_advice e ≡ true → event_with word rest ≡ Some e
+by_cap word rest e true same is plain = absurd (recapped rest e (sym (rw same refl) ∙ is) plain)
+by_cap word rest e false same is plain = sym (rw same refl) ∙ is
+
+by_rule : (word rest : List ℕ) (e : Event) (b : Bool) → bytes_eq word (codes "retry") ≡ b → cond (bytes_eq word (codes "retry")) (rule_change rest) (cond (bytes_eq word (codes "cap")) (cap_change rest) (event_with word rest)) ≡ Some e
+    → has_no_advice e ≡ true → event_with word rest ≡ Some e
+by_rule word rest e true same is plain = absurd (reruled rest e (sym (rw same refl) ∙ is) plain)
+by_rule word rest e false same is plain = by_cap word rest e (bytes_eq word (codes "cap")) refl (sym (rw same refl) ∙ is) plain
+
+by_terms : (word rest : List ℕ) (e : Event) (b : Bool) → bytes_eq word (codes "terms") ≡ b
+    → cond (bytes_eq word (codes "terms")) (terms_change rest) (cond (bytes_eq word (codes "retry")) (rule_change rest) (cond (bytes_eq word (codes "cap")) (cap_change rest) (event_with word rest))) ≡ Some e → has_no_advice e ≡ true
+    → event_with word rest ≡ Some e
 by_terms word rest e true same is plain = absurd (retermed rest e (sym (rw same refl) ∙ is) plain)
 by_terms word rest e false same is plain = by_rule word rest e (bytes_eq word (codes "retry")) refl (sym (rw same refl) ∙ is) plain
 

@@ -11,7 +11,7 @@ use Rattle.schedule.specs.declared.commands.Command.TheVariants.{Submit, Tick, P
 use Rattle.schedule.specs.Nodes.{pharmacy_in, node_in}
 use Rattle.schedule.specs.Events.{event_with}
 
--- the events that are commands too; packets are delivered by links, without an advice, nodes restarted as a whole, and terms and rules stay
+-- the events that are commands too; packets are delivered by links, without an advice, nodes restarted as a whole, and terms, rules and caps stay
 abbrev pub as_command : Event → Option Command
 as_command (event.Submit pharmacy text) = Some (Submit pharmacy text)
 as_command (event.Tick pharmacy) = Some (Tick pharmacy)
@@ -21,6 +21,7 @@ as_command (event.Start node) = None
 as_command (event.Plan payer product price) = Some (Plan payer product price)
 as_command (event.Terms payer fee copay) = None
 as_command (event.Retry pharmacy nodes again tries) = None
+as_command (event.Cap switch cap) = None
 as_command (event.Adjudicate packet advice) = None
 
 -- a pharmacy and the number of one of its requests

@@ -7,9 +7,11 @@ use Rattle.input_text.specs.Options.{◌>>=◌}
 use Rattle.input_text.specs.Words.{split_word}
 use Rattle.input_text.specs.Decimals.{decimal_number}
 use Rattle.input_text.specs.Printing.{unprinted}
+use Rattle.claim_model.specs.Limits.{widest}
+use Rattle.switch_node.specs.Settings.{settings_within}
 use Rattle.world_setup.specs.declared.event.Event.{Event}
-use Rattle.world_setup.specs.declared.event.Event.TheVariants.{Submit, Tick, Deliver, Stop, Start, Plan, Terms, Retry, Adjudicate}
-use Rattle.schedule.specs.Nodes.{pharmacy_in, payer_in, node_in}
+use Rattle.world_setup.specs.declared.event.Event.TheVariants.{Submit, Tick, Deliver, Stop, Start, Plan, Terms, Retry, Cap, Adjudicate}
+use Rattle.schedule.specs.Nodes.{pharmacy_in, switch_in, payer_in, node_in}
 use Rattle.schedule.specs.Switches.{switches_in}
 
 -- a pharmacy and, after one space, the rest of the line: a request in printed bytes, which may be empty
@@ -60,7 +62,7 @@ event_with word rest =
 unfoldable pub event_of : List ℕ → Option Event
 event_of line = split_word line >>= (λ parts. event_with parts.0 parts.1)
 
--- ---- of nodes that live: a payer may ask, its terms may change, and so may the rule by which a pharmacy sends again
+-- ---- of nodes that live: a payer may ask, its terms may change, and so may the rule by which a pharmacy sends again, and the cap of a switch
 
 -- a packet and, after one space, the rest of the line: an advice in printed bytes, which may be empty
 unfoldable pub adjudication : List ℕ → Option Event
@@ -96,12 +98,25 @@ rule_change rest = do
   tries ← cents_in numbers.1
   Some (Retry pharmacy nodes again tries)
 
+-- the cap of a switch, spelled as cents are: 1 to 16,777,216
+abbrev pub cap_in : List ℕ → Option ℕ
+cap_in word = cents_in word >>= λ cap. result_ok (settings_within widest cap)
+
+-- a switch and its cap
+unfoldable pub cap_change : List ℕ → Option Event
+cap_change rest = do
+  parts ← split_word rest
+  switch ← switch_in parts.0
+  cap ← cap_in parts.1
+  Some (Cap switch cap)
+
 -- the event of a word and what stands after it
 abbrev pub living_event_with : List ℕ → List ℕ → Option Event
 living_event_with word rest =
     if bytes_eq word (codes "adjudicate") then adjudication rest else
     if bytes_eq word (codes "terms") then terms_change rest else
-    if bytes_eq word (codes "retry") then rule_change rest else event_with word rest
+    if bytes_eq word (codes "retry") then rule_change rest else
+    if bytes_eq word (codes "cap") then cap_change rest else event_with word rest
 
 -- the event that a line spells
 unfoldable pub living_event_of : List ℕ → Option Event
@@ -112,7 +127,7 @@ abbrev pub line_event : Bool → List ℕ → Option Event
 line_event false = event_of
 line_event true = living_event_of
 
--- an event that has a line also where nodes do not live: no packet with an advice, and no change of terms or of a rule of retries
+-- an event that has a line also where nodes do not live: no packet with an advice, and no change of terms, of a rule of retries or of a cap
 abbrev pub has_no_advice : Event → Bool
 has_no_advice (Submit pharmacy text) = true
 has_no_advice (Tick pharmacy) = true
@@ -122,6 +137,7 @@ has_no_advice (Start node) = true
 has_no_advice (Plan payer product price) = true
 has_no_advice (Terms payer fee copay) = false
 has_no_advice (Retry pharmacy nodes again tries) = false
+has_no_advice (Cap switch cap) = false
 has_no_advice (Adjudicate packet advice) = false
 
 abbrev pub have_no_advice : List Event → Bool

@@ -120,6 +120,7 @@ fn as_command(event: Event) -> Option<Command>
         | Event::Start(_)
         | Event::Terms { .. }
         | Event::Retry { .. }
+        | Event::Cap { .. }
         | Event::Adjudicate { .. } => None,
     }
 }

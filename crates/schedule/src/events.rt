@@ -1,14 +1,16 @@
 //! The event that a line spells.
 
 ghost use Rattle.std.specs.Prelude.{◌≡◌, IfOk};
-ghost use Rattle.schedule.specs.Events.{adjudication, event_of, event_with, line_event, living_event_of, living_event_with, plain_event, rule_change, submission, terms_change};
+ghost use Rattle.schedule.specs.Events.{adjudication, cap_change, cap_in, event_of, event_with, line_event, living_event_of, living_event_with, plain_event, rule_change, submission, terms_change};
 
-use crate::nodes::{node_in, pharmacy_in};
-use crate::plans::{plan_change, terms_change};
+use crate::nodes::{node_in, pharmacy_in, switch_in};
+use crate::plans::{cents_in, plan_change, terms_change};
 use crate::rules::rule_change;
+use claim_model::Limits;
 use input_text::{PrintedFault, read_decimal, split_word, unprint};
 use octets::Octets;
 use std::alloc::{AllocError, Global};
+use switch_node::SwitchSettings;
 use world_setup::Event;
 
 /// The most digits of a packet's number (own).
@@ -25,7 +27,8 @@ pub fn event_of(alloc: Global, line: &[u8]) -> Result<Option<Event>, AllocError>
     }
 }
 
-/// The event that a line spells for programs that live: an adjudication or a change of terms or of a rule of retries too.
+/// The event that a line spells for programs that live: an adjudication or a change of terms, of a rule of retries or of
+/// a cap too.
 #[tactic(auto, unfolding(crate::specs::Events::living_event_of))]
 pub fn living_event_of(alloc: Global, line: &[u8]) -> Result<Option<Event>, AllocError>
     ensures { IfOk result (λ event. event ≡ living_event_of line.now) }
@@ -63,7 +66,30 @@ fn living_event_with(alloc: Global, word: &[u8], rest: &[u8]) -> Result<Option<E
     if word == b"retry".as_slice() {
         return rule_change(alloc, rest);
     }
+    if word == b"cap".as_slice() {
+        return Ok(cap_change(rest));
+    }
     event_with(alloc, word, rest)
+}
+
+/// The change of a cap, by a switch and its cap.
+#[tactic(auto, unfolding(crate::specs::Events::cap_change))]
+fn cap_change(rest: &[u8]) -> Option<Event>
+    ensures { result ≡ cap_change rest.now }
+{
+    let (node, word) = split_word(rest)?;
+    let switch = switch_in(node)?;
+    let entries = cap_in(word)?;
+    Some(Event::Cap { switch, entries })
+}
+
+/// The cap of a switch that a word spells in 1 to 10 digits, 1 to 16,777,216; none of any other word.
+pub fn cap_in(word: &[u8]) -> Option<u32>
+    ensures { result ≡ cap_in word.now }
+{
+    let cap = cents_in(word)?;
+    let settings = SwitchSettings::within(Limits::widest(), cap).ok()?;
+    Some(settings.cap())
 }
 
 /// The adjudication of a packet and an advice in printed bytes, which may be empty.

@@ -19,7 +19,7 @@ mod writing;
 
 pub use commands::Command;
 pub use division::{Division, divide};
-pub use events::{event_of, living_event_of};
+pub use events::{cap_in, event_of, living_event_of};
 pub use fault::{ScheduleFault, TextFault};
 pub use nodes::{node_in, put_node};
 pub use plans::{price_in, product_in};

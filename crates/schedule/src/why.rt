@@ -7,7 +7,7 @@ ghost use Rattle.schedule.specs.Events.{event_of, living_event_of};
 use crate::commands::command_of;
 use crate::events::{event_of, living_event_of};
 use crate::link_faults::fault_of;
-use crate::nodes::{node_in, payer_in, pharmacy_in};
+use crate::nodes::{node_in, payer_in, pharmacy_in, switch_in};
 use crate::plans::{cents_in, product_in};
 use crate::rules::switches_in;
 use input_text::{PrintedFault, read_decimal, split_word, unprint};
@@ -25,7 +25,7 @@ pub enum LineFault {
     #[error("a line is submit ph1 TEXT, tick ph1, deliver 3, stop sw1, start sw1 or plan pr1 PRODUCT PRICE, with one space between words")]
     EventWord,
     /// The first word is none of a replay's for programs that live.
-    #[error("a line is submit ph1 TEXT, tick ph1, deliver 3, adjudicate 3 ADVICE, stop sw1, start sw1, plan pr1 PRODUCT PRICE, terms pr1 FEE COPAY or retry ph1 SWITCHES AGAIN TRIES, with one space between words")]
+    #[error("a line is submit ph1 TEXT, tick ph1, deliver 3, adjudicate 3 ADVICE, stop sw1, start sw1, plan pr1 PRODUCT PRICE, terms pr1 FEE COPAY, retry ph1 SWITCHES AGAIN TRIES or cap sw1 ENTRIES, with one space between words")]
     LivingEventWord,
     /// The first word is none of a run's.
     #[error("a line is submit ph1 TEXT, tick ph1, plan pr1 PRODUCT PRICE, restart sw1 or await ph1 3, with one space between words, and before all of these fault ph1 sw1 ACTIONS")]
@@ -75,6 +75,12 @@ pub enum LineFault {
     /// There is no number of tries at one switch.
     #[error("a number of tries is wanted: 1 to 10 digits, at most 4294967295")]
     Tries,
+    /// There is no switch.
+    #[error("a switch is wanted: sw and 1 to 5 digits")]
+    Switch,
+    /// There is no cap of a switch.
+    #[error("a cap is wanted: 1 to 10 digits, 1 to 16777216")]
+    Cap,
     /// There are no actions.
     #[error("actions are wanted: deliver, lose, twice and hold, joined by commas")]
     Actions,
@@ -140,6 +146,9 @@ fn living_cause(alloc: Global, line: &[u8]) -> Result<LineFault, AllocError> {
         }
         if word == b"retry".as_slice() {
             return rule_cause(alloc, rest);
+        }
+        if word == b"cap".as_slice() {
+            return Ok(cap_cause(rest));
         }
     }
     match event_cause(alloc, line)? {
@@ -264,6 +273,18 @@ fn rule_cause(alloc: Global, rest: &[u8]) -> Result<LineFault, AllocError> {
     match switches_in(alloc, switches)? {
         Some(_) => Ok(numbers_cause(numbers)),
         None => Ok(LineFault::Switches),
+    }
+}
+
+/// What is wrong after `cap`.
+fn cap_cause(rest: &[u8]) -> LineFault {
+    let node = match split_word(rest) {
+        Some((node, _)) => node,
+        None => rest,
+    };
+    match switch_in(node) {
+        Some(_) => LineFault::Cap,
+        None => LineFault::Switch,
     }
 }
 

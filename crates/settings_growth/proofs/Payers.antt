@@ -11,7 +11,7 @@ use Rattle.claim_model.specs.Ruled.{Ruled, ruled}
 use Rattle.claim_model.specs.Rows.{Row, Book, ruled_rows}
 use Rattle.claim_model.specs.Judgement.{Judged, Unpriced, ToPrice, ToReverse, judged, ruling, rulings_from, is_advised, all_advised}
 use Rattle.claim_model.specs.Book.{serial_fits, row_of, row_with, new_row, has_verdicts, unadvised, entered_row, answered_by, answered_readable, answered}
-use Rattle.claim_model.specs.Node.{Node, Power, Up, AtRest, Sent, Call, Submit, Tick, Take, Stop, Start, Revise, OfPlan, OfRule, Adjudicate, Outcome, Done, Refused, after_answer, payer_takes, advice_in, after_reprice, payer_up, payer_at_rest, payer_step}
+use Rattle.claim_model.specs.Node.{Node, Power, Up, AtRest, Sent, Call, Submit, Tick, Take, Stop, Start, Revise, OfPlan, OfRule, OfCap, Adjudicate, Outcome, Done, Refused, after_answer, payer_takes, advice_in, after_reprice, payer_up, payer_at_rest, payer_step}
 use Rattle.settings_growth.specs.Growth.{book_with_cap, RouteLasts}
 use Rattle.settings_growth.proofs.Rerouted.{rerouted, leading}
 
@@ -133,6 +133,7 @@ step_up ctx route count b cap (Take from bytes) next sent wide le e = takes ctx 
 step_up ctx route count b cap Stop next sent wide le e = ap (leading (book_with_cap cap)) e
 step_up ctx route count b cap Start next sent wide le e = absurd cc
 step_up ctx route count b cap (Revise (OfRule rule)) next sent wide le e = absurd cc
+step_up ctx route count b cap (Revise (OfCap most)) next sent wide le e = absurd cc
 step_up ctx route count b cap (Revise (OfPlan change)) next sent wide le e = reprices b cap (ctx.reprice b.plan change) next sent e
 step_up ctx route count b cap (Adjudicate from bytes advice) next sent wide le e = advised_over ctx route count b cap from bytes advice b.settings.asks next sent wide le e
 
@@ -144,6 +145,7 @@ step_at_rest b cap Stop next sent e = absurd cc
 step_at_rest b cap Start next sent e = ap (leading (book_with_cap cap)) e
 step_at_rest b cap (Revise (OfPlan change)) next sent e = absurd cc
 step_at_rest b cap (Revise (OfRule rule)) next sent e = absurd cc
+step_at_rest b cap (Revise (OfCap most)) next sent e = absurd cc
 step_at_rest b cap (Adjudicate from bytes advice) next sent e = absurd cc
 
 abbrev pub book_cap : Power Book Book → ℕ
@@ -206,6 +208,7 @@ book_cap_stays ctx (Up b) (Take from bytes) next sent e = takes_capped ctx b una
 book_cap_stays ctx (Up b) Stop next sent e = capped_by _ next _ sent e
 book_cap_stays ctx (Up b) Start next sent e = absurd cc
 book_cap_stays ctx (Up b) (Revise (OfRule rule)) next sent e = absurd cc
+book_cap_stays ctx (Up b) (Revise (OfCap most)) next sent e = absurd cc
 book_cap_stays ctx (Up b) (Revise (OfPlan change)) next sent e = reprice_capped b (ctx.reprice b.plan change) next sent e
 book_cap_stays ctx (Up b) (Adjudicate from bytes advice) next sent e = advised_capped ctx b from bytes advice b.settings.asks next sent e
 book_cap_stays ctx (AtRest b) (Submit text) next sent e = absurd cc
@@ -215,4 +218,5 @@ book_cap_stays ctx (AtRest b) Stop next sent e = absurd cc
 book_cap_stays ctx (AtRest b) Start next sent e = capped_by _ next _ sent e
 book_cap_stays ctx (AtRest b) (Revise (OfPlan change)) next sent e = absurd cc
 book_cap_stays ctx (AtRest b) (Revise (OfRule rule)) next sent e = absurd cc
+book_cap_stays ctx (AtRest b) (Revise (OfCap most)) next sent e = absurd cc
 book_cap_stays ctx (AtRest b) (Adjudicate from bytes advice) next sent e = absurd cc

@@ -9,7 +9,7 @@ use Rattle.claim_model.specs.Readable.{has_version, has_code, longest, settles, 
 use Rattle.claim_model.specs.declared.refusal.Refusal.{Refusal}
 use Rattle.claim_model.specs.Numbered.{numbered}
 use Rattle.claim_model.specs.Journal.{RetryRule, Entry, Journal, JournalAtRest, State, Sending, first_fault, is_own, submit_fault, submitted_unless, submitted, ticked, due_by, due_from, due, settle_by, settle_with, heard_at, heard, stopped, started, is_empty, is_switch, have_switches, most_nodes, is_rounds, is_rule, ruled_anew}
-use Rattle.claim_model.specs.Node.{Power, Up, AtRest, Sent, Call, Submit, Tick, Take, Stop, Start, Revise, OfPlan, OfRule, Adjudicate, Outcome, Done, Refused, to_switch, after_submit, after_hearing, pharmacy_takes, pharmacy_up, pharmacy_at_rest, pharmacy_step}
+use Rattle.claim_model.specs.Node.{Power, Up, AtRest, Sent, Call, Submit, Tick, Take, Stop, Start, Revise, OfPlan, OfRule, OfCap, Adjudicate, Outcome, Done, Refused, to_switch, after_submit, after_hearing, pharmacy_takes, pharmacy_up, pharmacy_at_rest, pharmacy_step}
 use Rattle.settings_growth.specs.Growth.{journal_with_cap}
 use Rattle.settings_growth.proofs.Rerouted.{rerouted, leading}
 
@@ -122,6 +122,7 @@ step_up ctx route count j cap Stop next sent more le e = ap (leading (journal_wi
 step_up ctx route count j cap Start next sent more le e = absurd cc
 step_up ctx route count j cap (Revise (OfPlan change)) next sent more le e = absurd cc
 step_up ctx route count j cap (Revise (OfRule rule)) next sent more le e = rules j cap rule (is_rule ctx.switches rule) (is_rule count rule) next sent (still_rule ctx.switches count rule more) e
+step_up ctx route count j cap (Revise (OfCap most)) next sent more le e = absurd cc
 step_up ctx route count j cap (Adjudicate from bytes advice) next sent more le e = absurd cc
 
 step_at_rest : (j : JournalAtRest) (cap : ℕ) (call : Call) (next : Power Journal JournalAtRest) (sent : List Sent)
@@ -134,6 +135,7 @@ step_at_rest j cap Stop next sent e = absurd cc
 step_at_rest j cap Start next sent e = ap (leading (journal_with_cap cap)) e
 step_at_rest j cap (Revise (OfPlan change)) next sent e = absurd cc
 step_at_rest j cap (Revise (OfRule rule)) next sent e = absurd cc
+step_at_rest j cap (Revise (OfCap most)) next sent e = absurd cc
 step_at_rest j cap (Adjudicate from bytes advice) next sent e = absurd cc
 
 abbrev pub journal_cap : Power Journal JournalAtRest → ℕ
@@ -186,6 +188,7 @@ journal_cap_stays ctx (Up j) Stop next sent e = capped_by _ next _ sent e
 journal_cap_stays ctx (Up j) Start next sent e = absurd cc
 journal_cap_stays ctx (Up j) (Revise (OfPlan change)) next sent e = absurd cc
 journal_cap_stays ctx (Up j) (Revise (OfRule rule)) next sent e = rules_capped j rule (is_rule ctx.switches rule) next sent e
+journal_cap_stays ctx (Up j) (Revise (OfCap most)) next sent e = absurd cc
 journal_cap_stays ctx (Up j) (Adjudicate from bytes advice) next sent e = absurd cc
 journal_cap_stays ctx (AtRest j) (Submit text) next sent e = absurd cc
 journal_cap_stays ctx (AtRest j) Tick next sent e = absurd cc
@@ -194,4 +197,5 @@ journal_cap_stays ctx (AtRest j) Stop next sent e = absurd cc
 journal_cap_stays ctx (AtRest j) Start next sent e = capped_by _ next _ sent e
 journal_cap_stays ctx (AtRest j) (Revise (OfPlan change)) next sent e = absurd cc
 journal_cap_stays ctx (AtRest j) (Revise (OfRule rule)) next sent e = absurd cc
+journal_cap_stays ctx (AtRest j) (Revise (OfCap most)) next sent e = absurd cc
 journal_cap_stays ctx (AtRest j) (Adjudicate from bytes advice) next sent e = absurd cc

@@ -7,7 +7,7 @@ use Rattle.claim_model.specs.Context.{Context}
 use Rattle.claim_model.specs.Readable.{readable, route_key, payer_for, same_id, is_request}
 use Rattle.claim_model.specs.declared.refusal.Refusal.{Refusal}
 use Rattle.claim_model.specs.Table.{Table, Slot, slot_of, Requested, requested_again, entered_where, requested_by, requested_readable, requested, filled, Responded, responded_with, responded_by, responded_readable, responded}
-use Rattle.claim_model.specs.Node.{Node, Pharmacy, Switch, Payer, Power, Up, AtRest, Sent, Call, Submit, Tick, Take, Stop, Start, Revise, Adjudicate, Outcome, Done, Refused, after_request, after_response, switch_takes, switch_step}
+use Rattle.claim_model.specs.Node.{Node, Pharmacy, Switch, Payer, Power, Up, AtRest, Sent, Call, Submit, Tick, Take, Stop, Start, Revise, OfPlan, OfRule, OfCap, Adjudicate, Outcome, Done, Refused, after_request, after_response, switch_takes, switch_step}
 use Rattle.claim_model.specs.Settings.{WorldSettings, switches_of, opening}
 use Rattle.claim_model.specs.Nodes.{AnyNode, OfSwitch, node_step, node_at}
 use Rattle.claim_model.specs.Logs.{Logged, node_after, Makes}
@@ -131,7 +131,9 @@ stays_routed ctx (AtRest cap) (Submit text) next sent all e = absurd cc
 stays_routed ctx (AtRest cap) Tick next sent all e = absurd cc
 stays_routed ctx (AtRest cap) (Take from bytes) next sent all e = absurd cc
 stays_routed ctx (AtRest cap) Stop next sent all e = absurd cc
-stays_routed ctx (AtRest cap) (Revise change) next sent all e = absurd cc
+stays_routed ctx (AtRest cap) (Revise (OfPlan change)) next sent all e = absurd cc
+stays_routed ctx (AtRest cap) (Revise (OfRule rule)) next sent all e = absurd cc
+stays_routed ctx (AtRest cap) (Revise (OfCap most)) next sent all e = let same : AtRest most ≡ next = cc in subst (Routed ctx) same tt
 stays_routed ctx (AtRest cap) (Adjudicate from bytes advice) next sent all e = absurd cc
 
 -- ---- a rejected request that has a route now is forwarded now

@@ -4,3 +4,4 @@ pub mod Filling
 pub mod Rings
 pub mod Steps
 pub mod Rejections
+pub mod CapFormat

@@ -1,4 +1,5 @@
 pub mod Settings
+pub mod Bytes
 pub mod Ring
 pub mod Faults
 pub mod Sent

@@ -3,6 +3,7 @@
 //! table the oldest entry leaves for a new one, in constant time. A stop loses the table.
 #![tactic(auto)]
 
+mod bytes;
 mod fault;
 mod packets;
 mod reading;
@@ -13,6 +14,7 @@ mod switch;
 mod table;
 
 pub use bin_routes::{PayerNo, Routes};
+pub use bytes::{cap_bytes, put_cap, read_cap};
 pub use claim_model::{Fault, Refusal};
 pub use envelope::{Envelope, TxnId};
 pub use fault::SettingFault;

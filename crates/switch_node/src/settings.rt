@@ -2,7 +2,7 @@
 
 ghost use Rattle.std.specs.Prelude.{◌≡◌, ◌≤◌};
 ghost use Rattle.claim_model.specs.Limits.{most_entries};
-ghost use Rattle.switch_node.specs.Settings.{settings_of, settings_within};
+ghost use Rattle.switch_node.specs.Settings.{nearest, settings_of, settings_within};
 
 use crate::fault::SettingFault;
 use claim_model::Limits;
@@ -51,9 +51,25 @@ impl SwitchSettings {
         Ok(SwitchSettings { cap })
     }
 
+    /// The settings whose cap is nearest to this number: 1 to 16,777,216.
+    pub fn nearest(number: u32) -> SwitchSettings
+        ensures { result ≡ nearest number }
+    {
+        let most = Limits::widest().entries();
+        let cap = if number == 0 {
+            1
+        } else if number <= most {
+            number
+        } else {
+            most
+        };
+        SwitchSettings { cap }
+    }
+
     /// The most requests in the table.
     pub fn cap(self) -> u32
         ensures value { result ≡ self }
+        ensures own { nearest result ≡ self }
         ensures least { 1 ≤ result }
         ensures most { result ≤ most_entries }
     {

@@ -11,7 +11,7 @@ use Rattle.claim_model.specs.Ruled.{Ruled, ruled}
 use Rattle.claim_model.specs.Rows.{Row, BookSettings, Book, ruled_rows}
 use Rattle.claim_model.specs.Judgement.{Judged, Unpriced, ToPrice, ToReverse, judged, is_paid, next_auth, priced}
 use Rattle.claim_model.specs.Book.{row_of, new_row, unadvised, Answered, answered}
-use Rattle.claim_model.specs.Node.{Node, Power, Up, AtRest, Sent, Call, Submit, Tick, Take, Stop, Start, Revise, OfPlan, OfRule, Adjudicate, Done, after_answer, payer_takes, advice_in, after_reprice, payer_step}
+use Rattle.claim_model.specs.Node.{Node, Power, Up, AtRest, Sent, Call, Submit, Tick, Take, Stop, Start, Revise, OfPlan, OfRule, OfCap, Adjudicate, Done, after_answer, payer_takes, advice_in, after_reprice, payer_step}
 use Rattle.claim_model.specs.World.{World}
 use Rattle.claim_model.specs.Settings.{PayerSettings, WorldSettings, opening}
 use Rattle.claim_model.specs.Held.{book_in}
@@ -98,6 +98,7 @@ payer_moves ctx (Up b) next (Adjudicate from bytes advice) sent e =
     takes_move ctx b (advice_in ctx advice) from (ctx.read_envelope bytes) next sent (asked_first b.settings.asks _ next sent e).1
 payer_moves ctx (Up b) next Stop sent e = same_book ctx b (book_in next) (ap book_in (sym (done_same (AtRest b) next [] sent e).0))
 payer_moves ctx (Up b) next (Revise (OfRule rule)) sent e = absurd cc
+payer_moves ctx (Up b) next (Revise (OfCap most)) sent e = absurd cc
 payer_moves ctx (Up b) next (Revise (OfPlan change)) sent e = reprice_move ctx b (ctx.reprice b.plan change) next sent e
 payer_moves ctx (AtRest b) next Start sent e = same_book ctx b (book_in next) (ap book_in (sym (done_same (Up b) next [] sent e).0))
 payer_moves ctx (Up b) next (Submit text) sent e = absurd cc
@@ -109,6 +110,7 @@ payer_moves ctx (AtRest b) next (Take from bytes) sent e = absurd cc
 payer_moves ctx (AtRest b) next Stop sent e = absurd cc
 payer_moves ctx (AtRest b) next (Revise (OfPlan change)) sent e = absurd cc
 payer_moves ctx (AtRest b) next (Revise (OfRule rule)) sent e = absurd cc
+payer_moves ctx (AtRest b) next (Revise (OfCap most)) sent e = absurd cc
 payer_moves ctx (AtRest b) next (Adjudicate from bytes advice) sent e = absurd cc
 
 -- the rows of a book were made one after another

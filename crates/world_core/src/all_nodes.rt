@@ -92,6 +92,7 @@ impl Nodes {
             | Event::Plan { .. }
             | Event::Terms { .. }
             | Event::Retry { .. }
+            | Event::Cap { .. }
             | Event::Adjudicate { .. } => 1,
         }
     }

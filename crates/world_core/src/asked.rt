@@ -48,6 +48,9 @@ pub(crate) fn asked_by<'a>(
             };
             Some((Node::Pharmacy(*pharmacy), call))
         }
+        Event::Cap { switch, entries } => {
+            Some((Node::Switch(*switch), Call::Cap { entries: *entries }))
+        }
         Event::Adjudicate { packet, advice } => adjudicated(packets, *packet, advice),
     }
 }

@@ -6,6 +6,7 @@ use Rattle.claim_model.specs.World as world
 use Rattle.claim_model.specs.Settings as opened
 use Rattle.claim_model.specs.Words.{SetPrice, SetTerms}
 use Rattle.pharmacy_journal.specs.Ruling.{rule_in}
+use Rattle.switch_node.specs.Settings.{nearest}
 use Rattle.world_setup.specs.declared.node.Node.{Node}
 use Rattle.world_setup.specs.declared.node.Node.TheVariants as node
 use Rattle.world_setup.specs.declared.call.Call.{Call}
@@ -33,6 +34,7 @@ call_as read call.Start = model.Start
 call_as read (call.Plan product price) = model.Revise (model.OfPlan (SetPrice (read product) price))
 call_as read (call.Terms fee copay) = model.Revise (model.OfPlan (SetTerms fee copay))
 call_as read (call.Retry nodes again tries) = model.Revise (model.OfRule (rule_in (read nodes) again tries))
+call_as read (call.Cap entries) = model.Revise (model.OfCap (nearest entries))
 call_as read (call.Adjudicate from bytes advice) = model.Adjudicate (node_seen from) (read bytes) (read advice)
 
 -- a call with texts of its own
@@ -61,6 +63,7 @@ event_seen (event.Start node) = world.Starting (node_seen node)
 event_seen (event.Plan payer product price) = world.Revising (model.Payer payer) (model.OfPlan (SetPrice product price))
 event_seen (event.Terms payer fee copay) = world.Revising (model.Payer payer) (model.OfPlan (SetTerms fee copay))
 event_seen (event.Retry pharmacy nodes again tries) = world.Revising (model.Pharmacy pharmacy) (model.OfRule (rule_in nodes again tries))
+event_seen (event.Cap switch entries) = world.Revising (model.Switch switch) (model.OfCap (nearest entries))
 event_seen (event.Adjudicate packet advice) = world.Adjudication packet advice
 
 -- what a payer is opened with

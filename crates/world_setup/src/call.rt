@@ -48,6 +48,11 @@ pub enum Call<O = Octets> {
         /// How often an entry is sent to one switch.
         tries: u32,
     },
+    /// A switch that is at rest gets another cap, with which it starts.
+    Cap {
+        /// The most requests in its table, 1 to 16,777,216; another number stands for the nearest of these.
+        entries: u32,
+    },
     /// A payer that asks takes a packet with an advice.
     Adjudicate {
         /// Who sent the packet.
@@ -87,6 +92,7 @@ impl Call {
                 again: *again,
                 tries: *tries,
             },
+            Call::Cap { entries } => Call::Cap { entries: *entries },
             Call::Adjudicate {
                 from,
                 bytes,

@@ -57,6 +57,13 @@ pub enum Event {
         /// How often an entry is sent to one switch.
         tries: u32,
     },
+    /// A switch that is at rest gets another cap, with which it starts.
+    Cap {
+        /// The switch's number.
+        switch: u16,
+        /// The most requests in its table, 1 to 16,777,216; another number stands for the nearest of these.
+        entries: u32,
+    },
     /// The packet of this number, from 1, reaches its addressee, a payer that asks, with an advice.
     Adjudicate {
         /// The packet's number.

@@ -2,7 +2,7 @@
 complete -c claimaudit -l alone -d 'judges each log by itself, and nothing of other nodes'
 complete -c claimaudit -l days -d 'judges logs of pharmacies and payers as those of some days, from what their closed logs left on: each packet that is taken is what journals and books then say'
 complete -c claimaudit -l calls -d 'writes the records of each log as CSV, with their times and references, and judges nothing'
-complete -c claimaudit -l csv -x -a 'payments entries rows packets counted open prices terms retries' -d 'writes a table of what the run left as CSV: payments, entries, rows, packets, counted, prices, terms or retries; alone, payments, entries, rows, open, counted, prices, terms or retries; of days the first five of these'
+complete -c claimaudit -l csv -x -a 'payments entries rows packets counted open prices terms retries caps' -d 'writes a table of what the run left as CSV: payments, entries, rows, packets, counted, prices, terms, retries or caps; alone, payments, entries, rows, open, counted, prices, terms, retries or caps; of days the first five of these'
 complete -c claimaudit -l json -d 'writes one JSON object, with all tables of what the run left'
 complete -c claimaudit -l schedule -d 'writes the input of a replay of the run in place of the counts'
 complete -c claimaudit -l compare -d 'compares tables as CSV, in place of SETTINGS and LOG: counted and entries of a pharmacy, payments of a payer'

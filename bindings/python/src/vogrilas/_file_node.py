@@ -109,6 +109,12 @@ class FileNode:
         names = b",".join(b"sw%d" % number for number in numbers[:-2])
         return self._call(_line(b"retry %s %d %d" % (names, again, tries)))
 
+    def cap(self, entries: int) -> Said:
+        """Another cap: how many requests the table has at most, from the next start on. Of a switch that is stopped."""
+        if not isinstance(entries, int) or isinstance(entries, bool):
+            raise TypeError(f"a cap has to be an int, not {type(entries).__name__}")
+        return self._call(_line(b"cap %d" % entries))
+
     def stop(self) -> Said:
         """The node stops: it refuses calls until it starts."""
         return self._call(_line(b"stop"))
@@ -145,7 +151,7 @@ class FileNode:
 
     @property
     def most(self) -> int:
-        """The most that `count` can be: the cap in the settings."""
+        """The most that `count` can be: the cap in the settings, or of a switch that which `cap` gave it."""
         return self._read(lambda node: node.most)
 
     @property

@@ -380,7 +380,7 @@ class Node(_Held):
 
     @property
     def most(self) -> int:
-        """The most that `count` can be: the cap of the pharmacy, switch or payer in the settings."""
+        """The most that `count` can be: the cap of the pharmacy or payer in the settings, or that of the switch, which may change."""
         return self._number(LIBRARY.vogrilas_most)
 
     def _number(self, tells: Callable[..., int]) -> int:

@@ -52,6 +52,7 @@ impl Ages {
             Call::Plan { .. } => Ok(()),
             Call::Terms { .. } => Ok(()),
             Call::Retry { .. } => Ok(()),
+            Call::Cap { .. } => Ok(()),
             Call::Adjudicate { .. } => Ok(()),
         }
     }

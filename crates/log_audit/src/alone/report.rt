@@ -18,10 +18,10 @@ use crate::alone::log::{Lone, lone_node};
 use crate::alone::object::put_object;
 use crate::fault::AuditFault;
 use crate::outgoing::{Outgoing, TextSink};
-use crate::plans::tables::{Changes, log_changes_csv};
 use crate::reading::{Audited, bytes_in};
 use crate::report::Form;
 use crate::report::object::torn_at;
+use crate::revisions::tables::{Changes, log_changes_csv};
 use crate::tables::table::{Table, Tabled, put_csv};
 use kept_logs::calls_before;
 use node_log::NodeLog;
@@ -197,7 +197,7 @@ fn put_table_of<K: TextSink + Drop>(
     }
 }
 
-/// Puts the changes of plans or of rules, where each node makes its log.
+/// Puts the changes that are asked for, where each node makes its log.
 fn put_changes_of<K: TextSink + Drop>(
     alloc: Global,
     audited: &Audited,

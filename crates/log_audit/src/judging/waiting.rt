@@ -131,6 +131,7 @@ fn waits(lines: &[Progress<'_>], node: Node, call: &Call) -> bool
         Call::Plan { .. } => false,
         Call::Terms { .. } => false,
         Call::Retry { .. } => false,
+        Call::Cap { .. } => false,
     }
 }
 
@@ -224,6 +225,7 @@ fn put_reason(
         Call::Plan { .. } => put_no_event(line),
         Call::Terms { .. } => put_no_event(line),
         Call::Retry { .. } => put_no_event(line),
+        Call::Cap { .. } => put_no_event(line),
     }
 }
 

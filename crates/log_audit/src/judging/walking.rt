@@ -104,7 +104,8 @@ fn taken_by(call: &Call) -> Option<(Node, &Octets)> {
         | Call::Start
         | Call::Plan { .. }
         | Call::Terms { .. }
-        | Call::Retry { .. } => None,
+        | Call::Retry { .. }
+        | Call::Cap { .. } => None,
     }
 }
 

@@ -215,6 +215,7 @@ fn is_submission(call: &Call) -> bool
         | Call::Plan { .. }
         | Call::Terms { .. }
         | Call::Retry { .. }
+        | Call::Cap { .. }
         | Call::Adjudicate { .. } => false,
     }
 }

@@ -138,6 +138,10 @@ impl Recorded {
                 again,
                 tries,
             } => retry(*pharmacy, nodes, *again, *tries),
+            Event::Cap { switch, entries } => {
+                let entries = *entries;
+                call_on(Node::Switch(*switch), Call::Cap { entries })
+            }
             Event::Adjudicate { packet, advice } => self.adjudicating(*packet, advice),
         }
     }

@@ -42,6 +42,7 @@ pub(super) fn put_event(out: &mut Vec<u8>, event: &Event) -> Result<(), AllocErr
             again,
             tries,
         } => put_rule(out, *pharmacy, nodes.as_slice(), *again, *tries)?,
+        Event::Cap { switch, entries } => put_cap(out, *switch, *entries)?,
         Event::Adjudicate { packet, advice } => {
             put(out, b"adjudicate ")?;
             put_decimal(out, *packet)?;
@@ -103,6 +104,14 @@ fn put_rule(
     put_decimal(out, u64::from(again))?;
     put(out, b" ")?;
     put_decimal(out, u64::from(tries))
+}
+
+/// Appends a change of a cap.
+fn put_cap(out: &mut Vec<u8>, switch: u16, entries: u32) -> Result<(), AllocError> {
+    put(out, b"cap ")?;
+    put_node(out, Node::Switch(switch))?;
+    put(out, b" ")?;
+    put_decimal(out, u64::from(entries))
 }
 
 /// Appends the names of switches, joined by commas. A byte that is left over names none.

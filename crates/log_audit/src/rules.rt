@@ -1,4 +1,0 @@
-//! The changes of pharmacies' rules of retries, and their table.
-
-pub(crate) mod changes;
-pub(crate) mod table;
