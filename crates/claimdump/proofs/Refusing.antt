@@ -1,37 +1,22 @@
 -- Why there are no files, and what they are.
-use Rattle.std.proofs.Common.{◌≡◌, ℕ, List, Some, ◌⊎◌, inl, inr, ap, ◌∙◌}
+use Rattle.std.proofs.Common.{◌≡◌, ℕ, List, ap, ◌∙◌}
 use Rattle.bin_routes.specs.Table.{RouteMaps}
 use Rattle.claim_model.specs.Bytes.{bytes_with}
 use Rattle.claim_model.specs.World.{World, Event, run}
 use Rattle.schedule.specs.Division.{settings_text, scheduled_lines}
 use Rattle.settings_digest.specs.Digests.{digest_in}
 use Rattle.world_core.specs.Parts.{context_of}
-use Rattle.world_settings.specs.Document.{document_seen, living_in}
-use Rattle.world_setup.specs.Taken.{world_fault}
+use Rattle.world_settings.specs.Checked.{Spells}
 use Rattle.world_setup.specs.declared.settings.WorldSettings.{WorldSettings}
-use Rattle.world_setup.specs.declared.world_fault.WorldFault.{WorldFault}
-use Rattle.world_setup.specs.declared.world_fault.WorldFault.TheVariants as world
-use Rattle.claimdump.specs.Files.{IsRefusedFor, IsSettled, IsUnscheduled, IsUnsettled, NoWorld, dumped, files_in, no_world}
+use Rattle.claimdump.specs.Files.{IsRefusedFor, IsUnscheduled, dumped, files_in}
 use Rattle.claimdump.specs.NodeLogs.{AllLogs}
 use Rattle.claimdump.specs.Runs.{IsRun, context_under, opened_by, run_logs}
 use Rattle.claimdump.specs.declared.fault.DumpFault.{DumpFault}
 use Rattle.claimdump.specs.declared.fault.DumpFault.TheVariants as fault
 use Rattle.claimdump.specs.declared.recorded.Recorded.{Recorded}
 
-another : (text : List ℕ) (s : WorldSettings) (why : WorldFault) → living_in text ≡ Some (document_seen s) → (why ≡ world.OutOfMemory → ⊥) → (why ≡ world.OutOfMemory) ⊎ (world_fault s ≡ Some why) → NoWorld text why
-another text s why spelled apart (inl e) = absurd (apart e)
-another text s why spelled apart (inr e) = record { settings = s; spelled = spelled; fault = e }
-
--- what a world's settings are refused for is told
-pub refused_for : (text : List ℕ) (s : WorldSettings) (why : WorldFault) → living_in text ≡ Some (document_seen s) → (why ≡ world.OutOfMemory) ⊎ (world_fault s ≡ Some why) → IsUnsettled text (no_world why)
-refused_for text s world.OutOfMemory spelled cause = tt
-refused_for text s world.TooMany spelled cause = another text s world.TooMany spelled (λ e. cc) cause
-refused_for text s world.NoNode spelled cause = another text s world.NoNode spelled (λ e. cc) cause
-refused_for text s world.SameProvider spelled cause = another text s world.SameProvider spelled (λ e. cc) cause
-refused_for text s (world.BadRoute row) spelled cause = another text s (world.BadRoute row) spelled (λ e. cc) cause
-
--- and what the lines of a schedule are
-pub unscheduled : (input : List ℕ) (s : WorldSettings) (why : DumpFault) → IsSettled (settings_text input) s → IsUnscheduled (scheduled_lines input) why → IsRefusedFor input why
+-- what the lines of a schedule are refused for is told
+pub unscheduled : (input : List ℕ) (s : WorldSettings) (why : DumpFault) → Spells (settings_text input) s → IsUnscheduled (scheduled_lines input) why → IsRefusedFor input why
 unscheduled input s fault.OutOfMemory settled cause = tt
 unscheduled input s (fault.Settings why) settled cause = absurd cause
 unscheduled input s (fault.World why) settled cause = absurd cause

@@ -12,13 +12,11 @@ use Rattle.node_state.specs.Records.{journal_record, book_record}
 use Rattle.schedule.specs.Division.{settings_text, scheduled_lines}
 use Rattle.schedule.specs.Reading.{living_events_of}
 use Rattle.settings_digest.specs.Digests.{digest_in}
-use Rattle.world_settings.specs.Document.{document_seen, living_in}
+use Rattle.world_settings.specs.Checked.{Spells, SpellsNoWorld}
+use Rattle.world_settings.specs.Document.{living_in}
 use Rattle.world_setup.specs.Seen.{event_seen, node_seen}
-use Rattle.world_setup.specs.Taken.{world_fault}
 use Rattle.world_setup.specs.declared.event.Event.{Event as GivenEvent}
 use Rattle.world_setup.specs.declared.settings.WorldSettings.{WorldSettings}
-use Rattle.world_setup.specs.declared.world_fault.WorldFault.{WorldFault}
-use Rattle.world_setup.specs.declared.world_fault.WorldFault.TheVariants as world
 use Rattle.claimdump.specs.NodeLogs.{AllLogs, in_order}
 use Rattle.claimdump.specs.Runs.{context_under, opened_by, run_logs}
 use Rattle.claimdump.specs.declared.file.DumpFile.{DumpFile}
@@ -86,44 +84,25 @@ files_in ctx text digest w logs =
 abbrev pub dumped : List ℕ → WorldSettings → List Event → List File
 dumped text s events = files_in (context_under s) text (digest_in text) (run (context_under s) (opened_by s) events) (run_logs s events)
 
--- a text spells settings, of which a world is made
-pub record IsSettled (text : List ℕ) (s : WorldSettings) : Type 0 where
-  pub spelled : living_in text ≡ Some (document_seen s)
-  pub taken : world_fault s ≡ None
-
 -- an input spells settings and events, and these are the files of that run
 pub record IsDump (input : List ℕ) (files : List File) : Type 0 where
   pub settings : WorldSettings
-  pub settled : IsSettled (settings_text input) settings
+  pub settled : Spells (settings_text input) settings
   pub events : List GivenEvent
   pub read : living_events_of (scheduled_lines input) ≡ Ok events
   pub are : files ≡ dumped (settings_text input) settings (map event_seen events)
 
--- a text spells settings, of which this is why no world is made
-pub record NoWorld (text : List ℕ) (why : WorldFault) : Type 0 where
-  pub settings : WorldSettings
-  pub spelled : living_in text ≡ Some (document_seen settings)
-  pub fault : world_fault settings ≡ Some why
-
--- the fault of settings of which no world is made for this cause
-abbrev pub no_world : WorldFault → DumpFault
-no_world world.OutOfMemory = fault.OutOfMemory
-no_world world.TooMany = fault.World world.TooMany
-no_world world.NoNode = fault.World world.NoNode
-no_world world.SameProvider = fault.World world.SameProvider
-no_world (world.BadRoute why) = fault.World (world.BadRoute why)
-
 -- an input spells settings, of which a world is made, and the line of this number is the first that spells no event
 pub record NoEvent (input : List ℕ) (number : ℕ) : Type 0 where
   pub settings : WorldSettings
-  pub settled : IsSettled (settings_text input) settings
+  pub settled : Spells (settings_text input) settings
   pub line : living_events_of (scheduled_lines input) ≡ Err number
 
 -- a text is refused for this cause as settings; where memory ran out nothing is said
 abbrev pub IsUnsettled : List ℕ → DumpFault → Type 0
 IsUnsettled text fault.OutOfMemory = ⊤
 IsUnsettled text (fault.Settings why) = living_in text ≡ None
-IsUnsettled text (fault.World why) = NoWorld text why
+IsUnsettled text (fault.World why) = SpellsNoWorld text why
 IsUnsettled text (fault.Line number) = ⊥
 
 -- lines are refused for this cause as events
@@ -137,5 +116,5 @@ IsUnscheduled lines (fault.Line number) = living_events_of lines ≡ Err number
 abbrev pub IsRefusedFor : List ℕ → DumpFault → Type 0
 IsRefusedFor input fault.OutOfMemory = ⊤
 IsRefusedFor input (fault.Settings why) = living_in (settings_text input) ≡ None
-IsRefusedFor input (fault.World why) = NoWorld (settings_text input) why
+IsRefusedFor input (fault.World why) = SpellsNoWorld (settings_text input) why
 IsRefusedFor input (fault.Line number) = NoEvent input number

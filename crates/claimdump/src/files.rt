@@ -5,9 +5,10 @@ ghost use Rattle.std.specs.Str.Lines.{lines};
 ghost use Rattle.schedule.specs.Reading.{living_events_of};
 ghost use Rattle.settings_digest.specs.Digests.{digest_in};
 ghost use Rattle.world_core.specs.Parts.{context_of};
+ghost use Rattle.world_settings.specs.Checked.{Spells};
 ghost use Rattle.world_settings.specs.Document.{document_seen, living_in};
 ghost use Rattle.world_setup.specs.Seen.{event_seen};
-ghost use Rattle.claimdump.specs.Files.{file_seen, files_in, IsDump, IsRefusedFor, IsSettled, IsUnscheduled, IsUnsettled, no_world};
+ghost use Rattle.claimdump.specs.Files.{file_seen, files_in, IsDump, IsRefusedFor, IsUnscheduled, IsUnsettled};
 ghost use Rattle.claimdump.specs.Runs.{IsRun};
 
 use crate::fault::DumpFault;
@@ -16,12 +17,13 @@ use crate::node_logs::NodeLogs;
 use crate::putting::{put_log_files, put_records};
 use crate::recorded::Recorded;
 use kept_logs::SettingsDigest;
+use payer_book::HashKeys;
 use schedule::{ScheduleFault, divide, read_living_schedule};
 use settings_digest::said;
 use std::alloc::{AllocError, Global};
 use world_core::World;
-use world_settings::{SettingsFault, living_settings_fault, read_living_settings};
-use world_setup::{CheckedSettings, Event, WorldFault, WorldSettings};
+use world_settings::{Untaken, living_settings_fault, read_checked_settings};
+use world_setup::{CheckedSettings, Event, WorldSettings};
 
 /// The files of a replay: of each node its log; the settings; of each pharmacy the record of its journal, and of each payer
 /// that of its book, as they leave them that stop after all events.
@@ -42,30 +44,14 @@ pub(crate) fn dump(alloc: Global, input: &[u8]) -> Result<Vec<DumpFile>, DumpFau
 
 /// The settings that a text spells, of which a world is made.
 fn settings_in(alloc: Global, text: &[u8]) -> Result<CheckedSettings, DumpFault>
-    ensures settled { IfOk result (λ settings. IsSettled text.now settings) }
+    ensures settled { IfOk result (λ settings. Spells text.now settings) }
     ensures refused { IfErr result (λ fault. IsUnsettled text.now fault) }
 {
-    let settings = match read_living_settings(alloc, text) {
-        Ok(settings) => settings,
-        Err(SettingsFault::OutOfMemory) => return Err(DumpFault::OutOfMemory),
-        Err(SettingsFault::Settings) => return Err(why_refused(alloc, text)?),
-    };
-    match CheckedSettings::new(alloc, settings) {
+    match read_checked_settings(alloc, &HashKeys::fixed(), text) {
         Ok(settings) => Ok(settings),
-        Err(fault) => Err(no_world(fault)),
-    }
-}
-
-/// The fault of settings of which no world is made for this cause.
-fn no_world(fault: WorldFault) -> DumpFault
-    ensures { result ≡ no_world fault }
-{
-    match fault {
-        WorldFault::OutOfMemory => DumpFault::OutOfMemory,
-        WorldFault::TooMany => DumpFault::World(fault),
-        WorldFault::NoNode => DumpFault::World(fault),
-        WorldFault::SameProvider => DumpFault::World(fault),
-        WorldFault::BadRoute(_) => DumpFault::World(fault),
+        Err(Untaken::OutOfMemory) => Err(DumpFault::OutOfMemory),
+        Err(Untaken::Settings) => Err(why_refused(alloc, text)?),
+        Err(Untaken::World(fault)) => Err(DumpFault::World(fault)),
     }
 }
 

@@ -3,10 +3,10 @@ use Rattle.std.specs.Prelude.{◌≡◌, ⊤, ℕ, Bool, true, false, List}
 use Rattle.claim_model.specs.Node.{Node}
 use Rattle.world_setup.specs.Seen.{settings_seen}
 use Rattle.world_setup.specs.declared.settings.WorldSettings.{WorldSettings}
+use Rattle.world_settings.specs.Checked.{Spells}
 use Rattle.node_log.specs.There.{is_there}
 use Rattle.node_service.specs.declared.fault.ServiceFault.{ServiceFault}
 use Rattle.node_service.specs.declared.fault.ServiceFault.TheVariants as service
-use Rattle.node_service.specs.Opened.{Spells}
 use Rattle.node_service.specs.Refused.{NoSettings}
 use Rattle.claimnode.specs.declared.finding.Finding.{Finding}
 use Rattle.claimnode.specs.declared.finding.Finding.TheVariants.{OutOfMemory, Io, File, Settings, Service, SyncFailed, Untaken, Unserved, Untold, Unrepaired, Unclosed, Unjoined}

@@ -10,9 +10,10 @@ ghost use Rattle.claimnode.specs.Checked.{HasNode, IsUnchecked, TellsOfNode};
 use crate::finding::Finding;
 use node_log::is_there;
 use node_service::ServiceFault;
+use payer_book::HashKeys;
 use std::alloc::Global;
-use world_settings::{SettingsFault, living_settings_fault, read_living_settings};
-use world_setup::{CheckedSettings, Node};
+use world_settings::{living_settings_fault, read_checked_settings};
+use world_setup::Node;
 
 /// Refuses settings that have no such node, before a file is made for its log.
 ///
@@ -35,14 +36,8 @@ fn has_node(alloc: Global, text: &[u8], node: Node) -> Result<bool, ServiceFault
     ensures told { IfOk result (λ has. TellsOfNode text.now (node_seen node) has) }
     ensures refused { IfErr result (λ why. NoSettings text.now why) }
 {
-    match read_living_settings(alloc, text) {
-        Ok(settings) => match CheckedSettings::new(alloc, settings) {
-            Ok(taken) => Ok(is_there(taken.settings(), node)),
-            Err(fault) => Err(ServiceFault::from(fault)),
-        },
-        Err(SettingsFault::OutOfMemory) => Err(ServiceFault::OutOfMemory),
-        Err(SettingsFault::Settings) => Err(ServiceFault::Settings),
-    }
+    let settings = read_checked_settings(alloc, &HashKeys::fixed(), text)?;
+    Ok(is_there(settings.settings(), node))
 }
 
 /// What is wrong in settings that are refused.

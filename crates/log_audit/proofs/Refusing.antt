@@ -4,48 +4,46 @@ use Rattle.std.proofs.lemmas.List.{length-map, map-append}
 use Rattle.std.specs.Prelude.{Result}
 use Rattle.kept_logs.specs.Logs.{Reading}
 use Rattle.kept_logs.specs.declared.fault.LogFault.{LogFault}
-use Rattle.world_setup.specs.Taken.{world_fault}
 use Rattle.world_setup.specs.declared.settings.WorldSettings.{WorldSettings}
-use Rattle.world_settings.specs.Document.{document_seen, living_in}
+use Rattle.world_settings.specs.Checked.{IsUntaken, Spells}
+use Rattle.world_settings.specs.declared.fault.Untaken.{Untaken}
+use Rattle.world_settings.specs.declared.fault.Untaken.TheVariants as untaken
 use Rattle.node_log.specs.LogSeen.{log_seen, logs_seen}
 use Rattle.node_log.specs.declared.log.NodeLog.{NodeLog as Kept}
 use Rattle.log_audit.specs.declared.fault.AuditFault.{AuditFault}
 use Rattle.log_audit.specs.declared.fault.AuditFault.TheVariants.{OutOfMemory, Settings, World, Log, Reference, NoLine}
 use Rattle.log_audit.specs.Given.{AreLogs}
 use Rattle.log_audit.specs.Names.{IsMisnamed}
-use Rattle.log_audit.specs.Refused.{IsUnread, TakesNone, IsNoLog, AreNoLogs}
+use Rattle.log_audit.specs.Refused.{IsUnread, IsNoLog, AreNoLogs, untaken_fault}
 use Rattle.log_audit.specs.declared.reading.referring.MisnamedLog.{MisnamedLog}
 use Rattle.log_audit.proofs.LogReading.{as_many}
 
--- no world takes the settings
-pub world_refused : {A : Type 0} (text : List ℕ) (read : A → Result Reading LogFault) (given : List A) (wrong : Option MisnamedLog) (s : WorldSettings) (why : AuditFault)
-    → living_in text ≡ Some (document_seen s) → TakesNone s why → IsUnread text read given wrong why
-world_refused {A} text read given wrong s OutOfMemory spelled none = tt
-world_refused {A} text read given wrong s Settings spelled none = absurd none
-world_refused {A} text read given wrong s (World why) spelled none = record { settings = s; spelled = spelled; refused = none }
-world_refused {A} text read given wrong s (Log place fault) spelled none = absurd none
-world_refused {A} text read given wrong s (Reference place call fault) spelled none = absurd none
-world_refused {A} text read given wrong s NoLine spelled none = absurd none
+-- no settings are taken
+pub untaken_unread : {A : Type 0} (text : List ℕ) (read : A → Result Reading LogFault) (given : List A) (wrong : Option MisnamedLog) (why : Untaken) → IsUntaken text why
+    → IsUnread text read given wrong (untaken_fault why)
+untaken_unread {A} text read given wrong untaken.OutOfMemory is = tt
+untaken_unread {A} text read given wrong untaken.Settings is = is
+untaken_unread {A} text read given wrong (untaken.World why) is = is
 
 -- a log is refused
 pub logs_refused : {A : Type 0} (text : List ℕ) (read : A → Result Reading LogFault) (given : List A) (wrong : Option MisnamedLog) (s : WorldSettings) (why : AuditFault)
-    → living_in text ≡ Some (document_seen s) → world_fault s ≡ None → wrong ≡ None → AreNoLogs read given why → IsUnread text read given wrong why
-logs_refused {A} text read given wrong s OutOfMemory spelled taken clear none = tt
-logs_refused {A} text read given wrong s Settings spelled taken clear none = absurd none
-logs_refused {A} text read given wrong s (World why) spelled taken clear none = absurd none
-logs_refused {A} text read given wrong s (Log place fault) spelled taken clear none = (clear, record { settings = s; spelled = spelled; taken = taken; first = none })
-logs_refused {A} text read given wrong s (Reference place call fault) spelled taken clear none = absurd none
-logs_refused {A} text read given wrong s NoLine spelled taken clear none = absurd none
+    → Spells text s → wrong ≡ None → AreNoLogs read given why → IsUnread text read given wrong why
+logs_refused {A} text read given wrong s OutOfMemory spells clear none = tt
+logs_refused {A} text read given wrong s Settings spells clear none = absurd none
+logs_refused {A} text read given wrong s (World why) spells clear none = absurd none
+logs_refused {A} text read given wrong s (Log place fault) spells clear none = (clear, record { settings = s; spells = spells; first = none })
+logs_refused {A} text read given wrong s (Reference place call fault) spells clear none = absurd none
+logs_refused {A} text read given wrong s NoLine spells clear none = absurd none
 
 -- a reference is
 pub names_refused : {A : Type 0} (text : List ℕ) (read : A → Result Reading LogFault) (given : List A) (wrong : Option MisnamedLog) (s : WorldSettings) (why : AuditFault)
-    → living_in text ≡ Some (document_seen s) → world_fault s ≡ None → IsMisnamed wrong why → IsUnread text read given wrong why
-names_refused {A} text read given wrong s OutOfMemory spelled taken found = tt
-names_refused {A} text read given wrong s Settings spelled taken found = absurd found
-names_refused {A} text read given wrong s (World why) spelled taken found = absurd found
-names_refused {A} text read given wrong s (Log place fault) spelled taken found = absurd found
-names_refused {A} text read given wrong s (Reference place call fault) spelled taken found = record { settings = s; spelled = spelled; taken = taken; first = found }
-names_refused {A} text read given wrong s NoLine spelled taken found = absurd found
+    → Spells text s → IsMisnamed wrong why → IsUnread text read given wrong why
+names_refused {A} text read given wrong s OutOfMemory spells found = tt
+names_refused {A} text read given wrong s Settings spells found = absurd found
+names_refused {A} text read given wrong s (World why) spells found = absurd found
+names_refused {A} text read given wrong s (Log place fault) spells found = absurd found
+names_refused {A} text read given wrong s (Reference place call fault) spells found = record { settings = s; spells = spells; first = found }
+names_refused {A} text read given wrong s NoLine spells found = absurd found
 
 -- the logs so far were read, and the next is none
 pub no_log_here : {V A : Type 0} (see : V → A) (read : A → Result Reading LogFault) (xs : List V) (x : V) (more all : List V) (logs : List Kept) (why : AuditFault) → xs ++ x ∷ more ≡ all

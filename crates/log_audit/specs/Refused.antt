@@ -1,10 +1,11 @@
 -- Why nothing is judged: each cause is true, and those before it in the order do not stand.
 use Rattle.std.specs.Prelude.{◌≡◌, ◌≢◌, ⊤, ℕ, List, ◌∷◌, ◌++◌, length, Option, Some, None, Result, Err}
 use Rattle.claim_model.specs.Logs.{NodeLog}
-use Rattle.world_setup.specs.Taken.{world_fault}
 use Rattle.world_setup.specs.declared.settings.WorldSettings.{WorldSettings}
-use Rattle.world_setup.specs.declared.world_fault.WorldFault.{WorldFault}
-use Rattle.world_settings.specs.Document.{document_seen, living_in}
+use Rattle.world_settings.specs.Checked.{Spells, SpellsNoWorld}
+use Rattle.world_settings.specs.Document.{living_in}
+use Rattle.world_settings.specs.declared.fault.Untaken.{Untaken}
+use Rattle.world_settings.specs.declared.fault.Untaken.TheVariants as untaken
 use Rattle.kept_logs.specs.Logs.{Reading}
 use Rattle.settings_digest.specs.Digests.{digest_under}
 use Rattle.kept_logs.specs.declared.fault.LogFault.{LogFault}
@@ -14,12 +15,6 @@ use Rattle.log_audit.specs.declared.fault.AuditFault.TheVariants.{OutOfMemory, S
 use Rattle.log_audit.specs.Given.{AreLogs, Given, digest_of, read_by, read_given}
 use Rattle.log_audit.specs.Names.{misnamed_log}
 use Rattle.log_audit.specs.declared.reading.referring.MisnamedLog.{MisnamedLog}
-
--- a text spells settings that no world takes, for this cause
-pub record SpellsNoWorld (text : List ℕ) (why : WorldFault) : Type 0 where
-  pub settings : WorldSettings
-  pub spelled : living_in text ≡ Some (document_seen settings)
-  pub refused : world_fault settings ≡ Some why
 
 -- what is handed in at this place is the first that reads as no log: by the first fault that there is
 pub record IsFirstNoLog {A : Type 0} (read : A → Result Reading LogFault) (given : List A) (place : ℕ) (fault : LogFault) : Type 0 where
@@ -36,15 +31,13 @@ pub record IsFirstNoLog {A : Type 0} (read : A → Result Reading LogFault) (giv
 -- a text spells settings that a world takes, and what is handed in at this place is the first that reads as no log under them
 pub record RefusesLog {A : Type 0} (text : List ℕ) (read : A → Result Reading LogFault) (given : List A) (place : ℕ) (fault : LogFault) : Type 0 where
   pub settings : WorldSettings
-  pub spelled : living_in text ≡ Some (document_seen settings)
-  pub taken : world_fault settings ≡ None
+  pub spells : Spells text settings
   pub first : IsFirstNoLog read given place fault
 
 -- a text spells settings that a world takes, and this is the first log with a reference that no node keeps, and what is wrong with it
 pub record RefusesReference (text : List ℕ) (wrong : Option MisnamedLog) (found : MisnamedLog) : Type 0 where
   pub settings : WorldSettings
-  pub spelled : living_in text ≡ Some (document_seen settings)
-  pub taken : world_fault settings ≡ None
+  pub spells : Spells text settings
   pub first : wrong ≡ Some found
 
 -- nothing is judged for this cause, and for none before it, of what is read so, where this log is the first with such a reference
@@ -66,23 +59,11 @@ IsUntabled text bytes why = IsUnread text (read_by (digest_under text)) bytes No
 
 -- ---- on the way
 
--- a text spells no settings
-abbrev pub SpellsNone : List ℕ → AuditFault → Type 0
-SpellsNone text OutOfMemory = ⊤
-SpellsNone text Settings = living_in text ≡ None
-SpellsNone text (World why) = ⊥
-SpellsNone text (Log place fault) = ⊥
-SpellsNone text (Reference place call fault) = ⊥
-SpellsNone text NoLine = ⊥
-
--- no world takes settings
-abbrev pub TakesNone : WorldSettings → AuditFault → Type 0
-TakesNone settings OutOfMemory = ⊤
-TakesNone settings Settings = ⊥
-TakesNone settings (World why) = world_fault settings ≡ Some why
-TakesNone settings (Log place fault) = ⊥
-TakesNone settings (Reference place call fault) = ⊥
-TakesNone settings NoLine = ⊥
+-- the fault where no settings are taken
+abbrev pub untaken_fault : Untaken → AuditFault
+untaken_fault untaken.OutOfMemory = OutOfMemory
+untaken_fault untaken.Settings = Settings
+untaken_fault (untaken.World why) = World why
 
 -- what was read at a place is no log
 abbrev pub IsNoLog : Result Reading LogFault → ℕ → AuditFault → Type 0

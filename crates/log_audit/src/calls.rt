@@ -18,13 +18,14 @@ ghost use Rattle.log_audit.specs.Refused.{AreNoLogs, IsUntabled};
 ghost use Rattle.log_audit.specs.Calls.{IsCallsTable, IsNotKept, TellsLog, TellsLogs, call_load, call_names, call_row, call_rows, call_word, noted_row, sender_member, submissions_in, time_said};
 
 use crate::fault::AuditFault;
-use crate::reading::{checked, settings_of};
 use crate::tables::kinds::{node_field, number_of};
 use crate::tables::packets::{Carried, carried_in};
 use kept_logs::{KeptLog, KeptRecord, LogFault, read_kept};
+use payer_book::HashKeys;
 use settings_digest::Digests;
 use std::alloc::{AllocError, Global};
 use table_text::{Field, Style, put_head, put_row};
+use world_settings::read_checked_settings;
 use world_setup::{Call, Node};
 
 /// The records of logs as CSV, with what their hosts noted of them: a row for each record of each log, in order. Nothing
@@ -39,7 +40,7 @@ pub fn calls_table(alloc: Global, text: &[u8], logs: Vec<Vec<u8>>) -> Result<Vec
     // The cause is true, and those before it do not stand.
     ensures refused { IfErr result (λ why. IsUntabled text.now (bytes_of logs.items) why) }
 {
-    let settings = checked(alloc, settings_of(alloc, text)?)?;
+    let settings = read_checked_settings(alloc, &HashKeys::fixed(), text)?;
     let digests = Digests::of(alloc, settings.settings(), text)?;
     let mut out = Vec::new(alloc);
     put_names(&mut out)?;

@@ -6,6 +6,7 @@ ghost use Rattle.log_audit.specs.declared.fault.AuditFault.TheVariants.{OutOfMem
 use kept_logs::LogFault;
 use std::alloc::{AllocError, AllocFailed};
 use thiserror::Error;
+use world_settings::Untaken;
 use world_setup::WorldFault;
 
 /// What is wrong with what a caller calls a call.
@@ -62,6 +63,20 @@ impl From<AllocError> for AuditFault {
 
     fn from(_refused: AllocError) -> AuditFault {
         AuditFault::OutOfMemory
+    }
+}
+
+impl From<Untaken> for AuditFault {
+    ghost use Rattle.log_audit.specs.Refused.{untaken_fault};
+
+    ghost from_gives = { λ why fault. fault ≡ untaken_fault why };
+
+    fn from(why: Untaken) -> AuditFault {
+        match why {
+            Untaken::OutOfMemory => AuditFault::OutOfMemory,
+            Untaken::Settings => AuditFault::Settings,
+            Untaken::World(why) => AuditFault::World(why),
+        }
     }
 }
 

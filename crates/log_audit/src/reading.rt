@@ -6,22 +6,22 @@ pub(crate) mod referring;
 ghost use Rattle.std.specs.Prelude.{◌≡◌, ◌++◌, ◌∷◌, [], length, map, Some, None, Ok, IfOk, IfErr, OnOk};
 ghost use Rattle.std.specs.Option.{option_copied, option_map};
 ghost use Rattle.world_setup.specs.Taken.{world_fault};
-ghost use Rattle.world_settings.specs.Document.{document_seen, living_in};
 ghost use Rattle.node_log.specs.LogSeen.{logs_seen};
 ghost use Rattle.kept_logs.specs.Logs.{log_in};
 ghost use Rattle.kept_logs.specs.LogSeen.{reading_seen};
 ghost use Rattle.log_audit.specs.Given.{AreLogs, Given, IsRead, ReadsOne, bytes_of, digest_of, given_of, opened, read_given, rests_seen, torn_given, turned_given};
 ghost use Rattle.log_audit.specs.Names.{misnamed_log};
-ghost use Rattle.log_audit.specs.Refused.{AreNoLogs, IsNoLog, IsRefused, SpellsNone, TakesNone};
+ghost use Rattle.log_audit.specs.Refused.{AreNoLogs, IsNoLog, IsRefused};
 
 use crate::fault::AuditFault;
 use crate::reading::referring::check_references;
 use kept_logs::{LogFault, ReadLog, SettingsDigest, read_log};
 use node_log::NodeLog;
+use payer_book::HashKeys;
 use settings_digest::Digests;
 use std::alloc::{AllocError, Global};
-use world_settings::{SettingsFault, read_living_settings};
-use world_setup::{CheckedSettings, WorldFault, WorldSettings};
+use world_settings::read_checked_settings;
+use world_setup::CheckedSettings;
 
 /// The settings of nodes, their logs, how many bytes of a torn end each log has, and what each begins with where it goes on after
 /// closed ones. A log that has no place there begins with the opening of its node.
@@ -132,7 +132,7 @@ pub fn read_audited(
     // A schedule begins with the very text.
     ensures text { IfOk result (λ a. a.text.items ≡ text.items) }
 {
-    let settings = checked(alloc, settings_of(alloc, text.as_slice())?)?;
+    let settings = read_checked_settings(alloc, &HashKeys::fixed(), text.as_slice())?;
     let digests = Digests::of(alloc, settings.settings(), text.as_slice())?;
     check_references(alloc, &digests, logs.as_slice())?;
     let (read, rests) = read_each(alloc, &digests, logs)?;
@@ -240,30 +240,5 @@ fn read_one(
         Ok(read) => Ok(read),
         Err(LogFault::OutOfMemory) => Err(AuditFault::OutOfMemory),
         Err(fault) => Err(AuditFault::Log { place, fault }),
-    }
-}
-
-/// The settings that a text spells.
-pub(crate) fn settings_of(alloc: Global, text: &[u8]) -> Result<WorldSettings, AuditFault>
-    ensures read { IfOk result (λ settings. living_in text.now ≡ Some (document_seen settings)) }
-    ensures refused { IfErr result (λ why. SpellsNone text.now why) }
-{
-    match read_living_settings(alloc, text) {
-        Ok(settings) => Ok(settings),
-        Err(SettingsFault::OutOfMemory) => Err(AuditFault::OutOfMemory),
-        Err(SettingsFault::Settings) => Err(AuditFault::Settings),
-    }
-}
-
-/// Settings, where a world takes them.
-pub(crate) fn checked(alloc: Global, settings: WorldSettings) -> Result<CheckedSettings, AuditFault>
-    ensures kept { IfOk result (λ checked. checked ≡ settings) }
-    ensures taken { OnOk result (world_fault settings ≡ None) }
-    ensures refused { IfErr result (λ why. TakesNone settings why) }
-{
-    match CheckedSettings::new(alloc, settings) {
-        Ok(checked) => Ok(checked),
-        Err(WorldFault::OutOfMemory) => Err(AuditFault::OutOfMemory),
-        Err(fault) => Err(AuditFault::World(fault)),
     }
 }

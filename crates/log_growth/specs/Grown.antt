@@ -1,9 +1,7 @@
 -- Texts of settings of which one has grown from the other.
-use Rattle.std.specs.Prelude.{◌≡◌, ◌⊎◌, ⊤, ℕ, List, Some, None}
+use Rattle.std.specs.Prelude.{◌≡◌, ⊤, ℕ, List, Some}
 use Rattle.world_setup.specs.declared.settings.WorldSettings.{WorldSettings}
-use Rattle.world_settings.specs.Document.{living_in}
-use Rattle.node_service.specs.Opened.{Spells}
-use Rattle.node_service.specs.Refused.{SpellsNoWorld}
+use Rattle.world_settings.specs.Checked.{Spells, SpellsNone}
 use Rattle.log_growth.specs.Compared.{HasGrownTo, first_ungrown}
 use Rattle.log_growth.specs.declared.growth.GrowthFault.{GrowthFault}
 use Rattle.log_growth.specs.declared.growth.GrowthFault.TheVariants.{OutOfMemory, OldSettings, NewSettings, NotGrown}
@@ -24,10 +22,6 @@ pub record HasNotGrown (old new : List ℕ) (found : Ungrown) : Type 0 where
   pub first : Spells old before
   pub second : Spells new after
   pub is : first_ungrown before after ≡ Some found
-
--- a text spells no settings, or some that no world takes
-abbrev pub SpellsNone : List ℕ → Type 0
-SpellsNone text = (living_in text ≡ None) ⊎ SpellsNoWorld text
 
 -- texts are refused for this cause
 abbrev pub IsNoGrowth : List ℕ → List ℕ → GrowthFault → Type 0

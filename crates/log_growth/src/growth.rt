@@ -1,21 +1,18 @@
 //! Texts of settings, of which one has to have grown from the other.
 
-ghost use Rattle.std.specs.Prelude.{◌≡◌, ◌≢◌, IfOk, IfErr, OnOk};
-ghost use Rattle.world_setup.specs.declared.world_fault.WorldFault.TheVariants.{OutOfMemory};
+ghost use Rattle.std.specs.Prelude.{◌≡◌, IfOk, IfErr, OnOk};
 ghost use Rattle.settings_digest.specs.Digests.{AreOf};
-ghost use Rattle.node_service.specs.Opened.{Spells};
-ghost use Rattle.log_growth.specs.Grown.{HasGrown, IsNoGrowth, SpellsNone};
-ghost use Rattle.log_growth.specs.declared.growth.Untaken.TheVariants.{Settings};
+ghost use Rattle.log_growth.specs.Grown.{HasGrown, IsNoGrowth};
 
 use crate::comparing::first_ungrown;
 use crate::reason::reason;
 use crate::rows::has_new_range;
 use crate::ungrown::Ungrown;
+use payer_book::HashKeys;
 use settings_digest::Digests;
 use std::alloc::{AllocError, Global};
 use thiserror::Error;
-use world_settings::{SettingsFault, read_living_settings};
-use world_setup::{CheckedSettings, WorldFault};
+use world_settings::{Untaken, read_checked_settings};
 
 /// Why settings have not grown to others: the first cause in the order of this list. Want of memory may stand in place of any
 /// answer.
@@ -57,15 +54,17 @@ pub fn grows(alloc: Global, old: &[u8], new: &[u8]) -> Result<Grown, GrowthFault
     ensures new { IfOk result (λ grown. AreOf new.now grown.new) }
     ensures refused { IfErr result (λ why. IsNoGrowth old.now new.now why) }
 {
-    let before = match settings_of(alloc, old) {
+    let before = match read_checked_settings(alloc, &HashKeys::fixed(), old) {
         Ok(settings) => settings,
         Err(Untaken::OutOfMemory) => return Err(GrowthFault::OutOfMemory),
         Err(Untaken::Settings) => return Err(GrowthFault::OldSettings),
+        Err(Untaken::World(_)) => return Err(GrowthFault::OldSettings),
     };
-    let after = match settings_of(alloc, new) {
+    let after = match read_checked_settings(alloc, &HashKeys::fixed(), new) {
         Ok(settings) => settings,
         Err(Untaken::OutOfMemory) => return Err(GrowthFault::OutOfMemory),
         Err(Untaken::Settings) => return Err(GrowthFault::NewSettings),
+        Err(Untaken::World(_)) => return Err(GrowthFault::NewSettings),
     };
     let earlier = before.settings();
     let later = after.settings();
@@ -86,41 +85,5 @@ impl From<AllocError> for GrowthFault {
 
     fn from(_refused: AllocError) -> GrowthFault {
         GrowthFault::OutOfMemory
-    }
-}
-
-/// Why a text has no settings that a world takes.
-#[derive(Clone, Copy)]
-enum Untaken {
-    OutOfMemory,
-    Settings,
-}
-
-/// The settings that a text spells, where a world takes them.
-fn settings_of(alloc: Global, text: &[u8]) -> Result<CheckedSettings, Untaken>
-    ensures spelled { IfOk result (λ settings. Spells text.now settings) }
-    ensures refused { IfErr result (λ why. why ≡ Settings → SpellsNone text.now) }
-{
-    let settings = match read_living_settings(alloc, text) {
-        Ok(settings) => settings,
-        Err(SettingsFault::OutOfMemory) => return Err(Untaken::OutOfMemory),
-        Err(SettingsFault::Settings) => return Err(Untaken::Settings),
-    };
-    match CheckedSettings::new(alloc, settings) {
-        Ok(taken) => Ok(taken),
-        Err(fault) => Err(cause_of(fault)),
-    }
-}
-
-/// Why settings are not taken of which a world says this.
-fn cause_of(fault: WorldFault) -> Untaken
-    ensures { result ≡ Settings → fault ≢ OutOfMemory }
-{
-    match fault {
-        WorldFault::OutOfMemory => Untaken::OutOfMemory,
-        WorldFault::TooMany
-        | WorldFault::NoNode
-        | WorldFault::SameProvider
-        | WorldFault::BadRoute(_) => Untaken::Settings,
     }
 }

@@ -9,11 +9,10 @@ use Rattle.claim_model.specs.Logs.{Logged, Makes}
 use Rattle.claim_model.proofs.Names.{same_is}
 use Rattle.claim_model.proofs.Options.{same_some}
 use Rattle.world_setup.specs.Seen.{settings_seen}
-use Rattle.world_setup.specs.Taken.{world_fault}
 use Rattle.world_setup.specs.declared.settings.WorldSettings.{WorldSettings}
-use Rattle.world_setup.specs.declared.world_fault.WorldFault.{WorldFault}
-use Rattle.world_setup.specs.declared.world_fault.WorldFault.TheVariants as fault
-use Rattle.world_settings.specs.Document.{document_seen, living_in}
+use Rattle.world_settings.specs.Checked.{IsUntaken}
+use Rattle.world_settings.specs.declared.fault.Untaken.{Untaken}
+use Rattle.world_settings.specs.declared.fault.Untaken.TheVariants as untaken
 use Rattle.node_log.specs.There.{is_there}
 use Rattle.node_log.specs.Fits.{FitsBy}
 use Rattle.node_log.specs.Misfits.{BreaksAt}
@@ -27,43 +26,13 @@ use Rattle.settings_digest.specs.Digests.{turned_under}
 use Rattle.node_service.specs.declared.fault.ServiceFault.{ServiceFault}
 use Rattle.node_service.specs.declared.fault.ServiceFault.TheVariants.{OutOfMemory, Settings, NoSuchNode, Rest, Log, OtherNode, NotMade}
 use Rattle.node_service.specs.Opened.{Spells, IsUnmade}
-use Rattle.node_service.specs.Refused.{BreaksOff, Tells, NoSettings, IsUnserved, IsRefused}
+use Rattle.node_service.specs.Refused.{BreaksOff, NoSettings, untaken_said, IsUnserved, IsRefused}
 
--- no world takes the settings
-pub no_world : (text : List ℕ) (s : WorldSettings) (f : WorldFault) (why : ServiceFault) → living_in text ≡ Some (document_seen s)
-    → (f ≡ fault.OutOfMemory) ⊎ (world_fault s ≡ Some f) → Tells f why → NoSettings text why
-no_world text s f OutOfMemory spelled refused tells = tt
-no_world text s f Settings spelled (inr is) tells = inr (record { settings = s; spelled = spelled; why = f; refused = is })
-no_world text s fault.OutOfMemory Settings spelled (inl is) tells = absurd cc
-no_world text s fault.TooMany Settings spelled (inl is) tells = absurd cc
-no_world text s fault.NoNode Settings spelled (inl is) tells = absurd cc
-no_world text s fault.SameProvider Settings spelled (inl is) tells = absurd cc
-no_world text s (fault.BadRoute why) Settings spelled (inl is) tells = absurd cc
-no_world text s fault.OutOfMemory NoSuchNode spelled refused tells = absurd cc
-no_world text s fault.TooMany NoSuchNode spelled refused tells = absurd cc
-no_world text s fault.NoNode NoSuchNode spelled refused tells = absurd cc
-no_world text s fault.SameProvider NoSuchNode spelled refused tells = absurd cc
-no_world text s (fault.BadRoute why) NoSuchNode spelled refused tells = absurd cc
-no_world text s fault.OutOfMemory Rest spelled refused tells = absurd cc
-no_world text s fault.TooMany Rest spelled refused tells = absurd cc
-no_world text s fault.NoNode Rest spelled refused tells = absurd cc
-no_world text s fault.SameProvider Rest spelled refused tells = absurd cc
-no_world text s (fault.BadRoute why) Rest spelled refused tells = absurd cc
-no_world text s fault.OutOfMemory (Log f) spelled refused tells = absurd cc
-no_world text s fault.TooMany (Log f) spelled refused tells = absurd cc
-no_world text s fault.NoNode (Log f) spelled refused tells = absurd cc
-no_world text s fault.SameProvider (Log f) spelled refused tells = absurd cc
-no_world text s (fault.BadRoute why) (Log f) spelled refused tells = absurd cc
-no_world text s fault.OutOfMemory OtherNode spelled refused tells = absurd cc
-no_world text s fault.TooMany OtherNode spelled refused tells = absurd cc
-no_world text s fault.NoNode OtherNode spelled refused tells = absurd cc
-no_world text s fault.SameProvider OtherNode spelled refused tells = absurd cc
-no_world text s (fault.BadRoute why) OtherNode spelled refused tells = absurd cc
-no_world text s fault.OutOfMemory (NotMade n) spelled refused tells = absurd cc
-no_world text s fault.TooMany (NotMade n) spelled refused tells = absurd cc
-no_world text s fault.NoNode (NotMade n) spelled refused tells = absurd cc
-no_world text s fault.SameProvider (NotMade n) spelled refused tells = absurd cc
-no_world text s (fault.BadRoute why) (NotMade n) spelled refused tells = absurd cc
+-- no settings are taken
+pub no_settings : (text : List ℕ) (why : Untaken) → IsUntaken text why → NoSettings text (untaken_said why)
+no_settings text untaken.OutOfMemory is = tt
+no_settings text untaken.Settings is = inl is
+no_settings text (untaken.World why) is = inr (why, is)
 
 -- the settings are refused
 pub settings_refused : (text : List ℕ) (node : Node) (rest : Option (List ℕ)) (bytes : List ℕ) (why : ServiceFault) → NoSettings text why → IsRefused text node rest bytes why

@@ -4,9 +4,8 @@ use Rattle.claim_model.specs.Node.{Node}
 use Rattle.claim_model.specs.Nodes.{AnyNode}
 use Rattle.claim_model.specs.Context.{Context}
 use Rattle.claim_model.specs.Logs.{Logged, Makes}
-use Rattle.world_setup.specs.Taken.{world_fault}
 use Rattle.world_setup.specs.declared.settings.WorldSettings.{WorldSettings}
-use Rattle.world_settings.specs.Document.{document_seen, living_in}
+pub use Rattle.world_settings.specs.Checked.{Spells}
 use Rattle.kept_logs.specs.declared.fault.LogFault.{LogFault}
 use Rattle.kept_logs.specs.declared.fault.LogFault.TheVariants.{Short}
 use Rattle.kept_logs.specs.Digests.{version_of}
@@ -21,11 +20,6 @@ use Rattle.settings_digest.specs.declared.digests.Digests.{Digests}
 use Rattle.crash_safety.specs.Steps.{replayed_from}
 use Rattle.node_logged.specs.Setting.{context_of}
 use Rattle.node_service.specs.Serving.{Serving}
-
--- a text spells these settings, and a world takes them
-pub record Spells (text : List ℕ) (settings : WorldSettings) : Type 0 where
-  pub spelled : living_in text ≡ Some (document_seen settings)
-  pub taken : world_fault settings ≡ None
 
 -- settings that nodes share, and the digests under which logs are of them
 pub record Sharing : Type 0 where

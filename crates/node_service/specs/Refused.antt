@@ -3,11 +3,10 @@ use Rattle.std.specs.Prelude.{◌≡◌, ◌≢◌, ◌⊎◌, ⊤, ℕ, true, f
 use Rattle.claim_model.specs.Node.{Node}
 use Rattle.claim_model.specs.Nodes.{AnyNode, same_node}
 use Rattle.world_setup.specs.Seen.{settings_seen}
-use Rattle.world_setup.specs.Taken.{world_fault}
 use Rattle.world_setup.specs.declared.settings.WorldSettings.{WorldSettings}
-use Rattle.world_setup.specs.declared.world_fault.WorldFault.{WorldFault}
-use Rattle.world_setup.specs.declared.world_fault.WorldFault.TheVariants as world_fault
-use Rattle.world_settings.specs.Document.{document_seen, living_in}
+use Rattle.world_settings.specs.Checked.{Spells, SpellsNone}
+use Rattle.world_settings.specs.declared.fault.Untaken.{Untaken}
+use Rattle.world_settings.specs.declared.fault.Untaken.TheVariants as untaken
 use Rattle.node_log.specs.There.{is_there}
 use Rattle.node_log.specs.Misfits.{BreaksAt}
 use Rattle.node_logged.specs.Setting.{context_of}
@@ -19,27 +18,17 @@ use Rattle.kept_logs.specs.Rests.{begins}
 use Rattle.settings_digest.specs.Digests.{turned_under}
 use Rattle.node_service.specs.declared.fault.ServiceFault.{ServiceFault}
 use Rattle.node_service.specs.declared.fault.ServiceFault.TheVariants.{OutOfMemory, Settings, NoSuchNode, Rest, Log, OtherNode, NotMade}
-use Rattle.node_service.specs.Opened.{Spells}
 
--- a text spells settings that no world takes
-pub record SpellsNoWorld (text : List ℕ) : Type 0 where
-  pub settings : WorldSettings
-  pub spelled : living_in text ≡ Some (document_seen settings)
-  pub why : WorldFault
-  pub refused : world_fault settings ≡ Some why
-
--- what is said of settings that no world takes
-abbrev pub Tells : WorldFault → ServiceFault → Type 0
-Tells world_fault.OutOfMemory e = e ≡ OutOfMemory
-Tells world_fault.TooMany e = e ≡ Settings
-Tells world_fault.NoNode e = e ≡ Settings
-Tells world_fault.SameProvider e = e ≡ Settings
-Tells (world_fault.BadRoute why) e = e ≡ Settings
+-- what is said where no settings are taken
+abbrev pub untaken_said : Untaken → ServiceFault
+untaken_said untaken.OutOfMemory = OutOfMemory
+untaken_said untaken.Settings = Settings
+untaken_said (untaken.World why) = Settings
 
 -- the settings are refused: the text spells none, or some that no world takes
 abbrev pub NoSettings : List ℕ → ServiceFault → Type 0
 NoSettings text OutOfMemory = ⊤
-NoSettings text Settings = (living_in text ≡ None) ⊎ SpellsNoWorld text
+NoSettings text Settings = SpellsNone text
 NoSettings text NoSuchNode = ⊥
 NoSettings text Rest = ⊥
 NoSettings text (Log fault) = ⊥
@@ -102,7 +91,7 @@ pub record HasNoLog (text : List ℕ) (node : Node) (rest : Option (List ℕ)) (
 -- a node is refused for this cause, and for none before it
 abbrev pub IsRefused : List ℕ → Node → Option (List ℕ) → List ℕ → ServiceFault → Type 0
 IsRefused text node rest bytes OutOfMemory = ⊤
-IsRefused text node rest bytes Settings = (living_in text ≡ None) ⊎ SpellsNoWorld text
+IsRefused text node rest bytes Settings = SpellsNone text
 IsRefused text node rest bytes NoSuchNode = HasNoNode text node
 IsRefused text node rest bytes Rest = HasNoRest text node rest
 IsRefused text node rest bytes (Log fault) = HasNoLog text node rest bytes (Log fault)

@@ -3,7 +3,7 @@
 use kept_logs::LogFault;
 use std::alloc::AllocError;
 use thiserror::Error;
-use world_setup::WorldFault;
+use world_settings::Untaken;
 
 /// Why a node is not served: the first cause in the order of this list, where a log's own faults come before `OtherNode`. Want
 /// of memory may stand in place of any answer.
@@ -44,18 +44,16 @@ impl From<AllocError> for ServiceFault {
     }
 }
 
-impl From<WorldFault> for ServiceFault {
-    ghost use Rattle.node_service.specs.Refused.{Tells};
+impl From<Untaken> for ServiceFault {
+    ghost use Rattle.std.specs.Prelude.{◌≡◌};
+    ghost use Rattle.node_service.specs.Refused.{untaken_said};
 
-    ghost from_gives = { λ fault e. Tells fault e };
+    ghost from_gives = { λ why e. e ≡ untaken_said why };
 
-    fn from(fault: WorldFault) -> ServiceFault {
-        match fault {
-            WorldFault::OutOfMemory => ServiceFault::OutOfMemory,
-            WorldFault::TooMany
-            | WorldFault::NoNode
-            | WorldFault::SameProvider
-            | WorldFault::BadRoute(_) => { ServiceFault::Settings }
+    fn from(why: Untaken) -> ServiceFault {
+        match why {
+            Untaken::OutOfMemory => ServiceFault::OutOfMemory,
+            Untaken::Settings | Untaken::World(_) => ServiceFault::Settings,
         }
     }
 }

@@ -1,11 +1,10 @@
 //! Settings that any number of nodes share.
 
-ghost use Rattle.std.specs.Prelude.{◌≡◌, Some, IfOk, IfErr};
+ghost use Rattle.std.specs.Prelude.{◌≡◌, IfOk, IfErr};
 ghost use Rattle.std.specs.Arc.{arc_value};
 ghost use Rattle.std.specs.Option.{option_copied};
-ghost use Rattle.world_settings.specs.Document.{document_seen, living_in};
 ghost use Rattle.settings_digest.specs.Digests.{turned};
-ghost use Rattle.node_service.specs.Opened.{IsSharing, Spells};
+ghost use Rattle.node_service.specs.Opened.{IsSharing};
 ghost use Rattle.node_service.specs.Refused.{NoSettings};
 
 use crate::fault::ServiceFault;
@@ -15,8 +14,8 @@ use settings_digest::Digests;
 use std::alloc::Global;
 use std::marker::Model;
 use std::sync::Arc;
-use world_settings::{SettingsFault, read_living_settings};
-use world_setup::{CheckedSettings, WorldSettings};
+use world_settings::read_checked_settings;
+use world_setup::CheckedSettings;
 
 /// Settings that a world takes, and the digests under which logs are of them: all that nodes under the same settings have in
 /// common, which is made once for any number of them (own).
@@ -74,31 +73,7 @@ fn shared_of(alloc: Global, keys: &HashKeys, text: &[u8]) -> Result<SharedSettin
     ensures opened { IfOk result (λ shared. IsSharing text.now shared) }
     ensures refused { IfErr result (λ why. NoSettings text.now why) }
 {
-    let checked = checked_of(alloc, keys, text)?;
+    let checked = read_checked_settings(alloc, keys, text)?;
     let digests = Digests::of(alloc, checked.settings(), text)?;
     Ok(SharedSettings { checked, digests })
-}
-
-/// The settings that a text spells, with these keys, where a world takes them.
-fn checked_of(alloc: Global, keys: &HashKeys, text: &[u8]) -> Result<CheckedSettings, ServiceFault>
-    ensures spelled { IfOk result (λ shared. Spells text.now shared) }
-    ensures refused { IfErr result (λ why. NoSettings text.now why) }
-{
-    let settings = settings_of(alloc, keys, text)?;
-    match CheckedSettings::new(alloc, settings) {
-        Ok(shared) => Ok(shared),
-        Err(fault) => Err(ServiceFault::from(fault)),
-    }
-}
-
-/// The settings that a text spells, with these keys.
-fn settings_of(alloc: Global, keys: &HashKeys, text: &[u8]) -> Result<WorldSettings, ServiceFault>
-    ensures read { IfOk result (λ settings. living_in text.now ≡ Some (document_seen settings)) }
-    ensures refused { IfErr result (λ why. NoSettings text.now why) }
-{
-    match read_living_settings(alloc, text) {
-        Ok(settings) => Ok(settings.with_keys(keys)),
-        Err(SettingsFault::OutOfMemory) => Err(ServiceFault::OutOfMemory),
-        Err(SettingsFault::Settings) => Err(ServiceFault::Settings),
-    }
 }

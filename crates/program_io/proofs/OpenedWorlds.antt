@@ -14,14 +14,15 @@ use Rattle.world_setup.specs.declared.settings.WorldSettings.{WorldSettings}
 use Rattle.world_setup.specs.declared.world_fault.WorldFault.{WorldFault}
 use Rattle.world_setup.specs.declared.world_fault.WorldFault.TheVariants as fault
 use Rattle.world_core.specs.Parts.{WorldParts}
-use Rattle.world_settings.specs.Document.{document_seen}
+use Rattle.world_settings.specs.Checked.{Spells}
+use Rattle.world_settings.specs.Document.{document_seen, living_in}
 use Rattle.schedule.specs.Division.{settings_text, schedule_lines}
 use Rattle.schedule.specs.Reading.{living_events_of}
 use Rattle.world_settings.specs.declared.fault.SettingsFault.{SettingsFault as ReadingFault}
 use Rattle.world_settings.specs.declared.fault.SettingsFault.TheVariants as settings
 use Rattle.program_io.specs.declared.fault.InputFault.{InputFault}
 use Rattle.program_io.specs.declared.fault.InputFault.TheVariants.{Line}
-use Rattle.program_io.specs.Scheduled.{is_taken, opened_world, opened_by, living_world_in, scheduled_from, living_scheduled_of, OpensNone}
+use Rattle.program_io.specs.Scheduled.{is_taken, opened_world, opened_by, opened_if, living_world_in, scheduled_from, living_scheduled_of, OpensNone}
 use Rattle.program_io.specs.Stops.{RefusedFor, settings_told}
 
 none_both : (a : Option SettingsFault) (b : Option RoutesFault) → option_or (option_map named a) (option_map fault.BadRoute b) ≡ None → (is_none a && is_none b) ≡ true
@@ -46,6 +47,16 @@ opened_where s w none is =
 pub opened_nowhere : (s : WorldSettings) (why : WorldFault) → world_fault s ≡ Some why → opened_by (document_seen s) ≡ None
 opened_nowhere s why some =
     ap (λ (b : Bool). if b then Some (opened_world (document_seen s)) else None) (test_is s ∙ some_one (settings_fault (settings_seen s)) (first_fault (length s.payers.items) s.routes.items) why some)
+
+-- wide settings that a text spells and a world takes open it
+pub living_opens : (text : List ℕ) (s : WorldSettings) (w : WorldParts) → Spells text s → w ≡ opened_world (document_seen s) → living_world_in text ≡ Some w
+unfolding living_world_in
+living_opens text s w spells is = ap opened_if spells.spelled ∙ opened_where s w spells.taken is
+
+-- others open none
+pub living_opens_none : (text : List ℕ) (s : WorldSettings) (why : WorldFault) → living_in text ≡ Some (document_seen s) → world_fault s ≡ Some why → living_world_in text ≡ None
+unfolding living_world_in
+living_opens_none text s why spelled refused = ap opened_if spelled ∙ opened_nowhere s why refused
 
 -- an input whose settings open a world and whose lines spell events
 pub scheduled_is : (input : List ℕ) (w : WorldParts) (events : List Event) → living_world_in (settings_text input) ≡ Some w → living_events_of (schedule_lines (lines input)) ≡ Ok events

@@ -7,7 +7,7 @@ ghost use Rattle.program_io.specs.Scheduled.{world_in, living_world_in, opened_b
 use payer_book::HashKeys;
 use std::alloc::Global;
 use world_core::World;
-use world_settings::{SettingsFault, read_living_settings, read_settings};
+use world_settings::{SettingsFault, Untaken, read_checked_settings, read_settings};
 use world_setup::{CheckedSettings, WorldFault, WorldSettings};
 
 /// The opening world of the settings that a text spells. The maps of its books hash with these keys.
@@ -54,25 +54,11 @@ pub(crate) fn living_opened(
     ensures made { IfOk result (λ world. living_world_in text.now ≡ Some world) }
     ensures fault { IfErr result (λ fault. OpensNone fault (living_world_in text.now)) }
 {
-    let settings = living_taken(alloc, keys, text)?;
-    Ok(World::opening(alloc, settings)?)
-}
-
-/// The wide settings that a text spells, where a world takes them.
-#[tactic(auto, unfolding(crate::specs::Scheduled::living_world_in))]
-fn living_taken(
-    alloc: Global,
-    keys: &HashKeys,
-    text: &[u8],
-) -> Result<CheckedSettings, SettingsFault>
-    ensures opens { IfOk result (λ settings. living_world_in text.now
-        ≡ Some (opened_world (document_seen settings))) }
-    ensures fault { IfErr result (λ fault. OpensNone fault (living_world_in text.now)) }
-{
-    match read_living_settings(alloc, text) {
-        Ok(settings) => taken(alloc, settings.with_keys(keys)),
-        Err(SettingsFault::OutOfMemory) => Err(SettingsFault::OutOfMemory),
-        Err(SettingsFault::Settings) => Err(SettingsFault::Settings),
+    match read_checked_settings(alloc, keys, text) {
+        Ok(settings) => Ok(World::opening(alloc, settings)?),
+        Err(Untaken::OutOfMemory) => Err(SettingsFault::OutOfMemory),
+        Err(Untaken::Settings) => Err(SettingsFault::Settings),
+        Err(Untaken::World(_)) => Err(SettingsFault::Settings),
     }
 }
 

@@ -7,3 +7,4 @@ pub mod Routes
 pub mod Limits
 pub mod Profile
 pub mod Document
+pub mod Checked

@@ -4,6 +4,7 @@
 //! `specs/`. Every refusal that is not for want of memory is one and the same.
 #![tactic(auto)]
 
+mod checked;
 mod fault;
 mod keys;
 mod limits;
@@ -18,6 +19,7 @@ mod values;
 mod wanted;
 mod why;
 
-pub use fault::SettingsFault;
+pub use checked::read_checked_settings;
+pub use fault::{SettingsFault, Untaken};
 pub use settings::{read_living_settings, read_settings};
 pub use why::{living_settings_fault, settings_fault};
