@@ -83,6 +83,7 @@ fn ruled(
 }
 
 /// The taking of the packet of a number.
+#[tactic(auto, using(claim_model::proofs::Lists::numbered_map, world_core::proofs::Calls::node_at, world_core::proofs::Calls::numbered_at))]
 fn delivered(packets: &[Packet], number: u64) -> Result<Option<(Node, Call)>, AllocError>
     ensures { IfOk result (λ call. option_map asked_of call
         ≡ option_map taking (numbered (map packet_seen packets.now) number)) }
@@ -97,6 +98,7 @@ fn delivered(packets: &[Packet], number: u64) -> Result<Option<(Node, Call)>, Al
 }
 
 /// The taking of the packet of a number, with an advice.
+#[tactic(auto, using(claim_model::proofs::Lists::numbered_map, world_core::proofs::Calls::node_at, world_core::proofs::Calls::numbered_at))]
 fn adjudicated(
     packets: &[Packet],
     number: u64,

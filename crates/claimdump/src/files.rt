@@ -30,6 +30,7 @@ use world_setup::{CheckedSettings, Event, WorldSettings};
 ///
 /// # Errors
 /// `Settings`, then `World`, then `Line` of the first line that spells no event; `OutOfMemory`.
+#[tactic(auto, using(std::proofs::lemmas::Result::err_from_is_err_and, crate::proofs::Refusing::unscheduled))]
 pub(crate) fn dump(alloc: Global, input: &[u8]) -> Result<Vec<DumpFile>, DumpFault>
     ensures dumped { IfOk result (λ files. IsDump input.now (map file_seen files.items)) }
     ensures refused { IfErr result (λ fault. IsRefusedFor input.now fault) }
@@ -78,6 +79,7 @@ fn events_in(alloc: Global, schedule: &[u8]) -> Result<Vec<Event>, DumpFault>
 }
 
 /// The digest of what settings say that a text spells.
+#[tactic(auto, using(settings_digest::proofs::Keeping::said_is))]
 fn digest_of(
     alloc: Global,
     _text: &[u8],

@@ -61,6 +61,7 @@ impl Model for NodeLogs {
 
 impl NodeLogs {
     /// A log of no calls for each node of these settings.
+    #[tactic(auto, using(crate::proofs::NodeLogs::none_are))]
     pub(crate) fn opening(alloc: Global, settings: &CheckedSettings) -> Result<NodeLogs, AllocError>
         ensures { IfOk result (λ logs. logs ≡ no_calls settings.now) }
     {
@@ -73,6 +74,7 @@ impl NodeLogs {
     }
 
     /// Records an accepted call of a node, and what it sent.
+    #[tactic(auto, using(std::proofs::lemmas::Result::on_ok_weaker, crate::proofs::NodeLogs::stay_all, crate::proofs::NodeLogs::pharmacy_recorded, crate::proofs::NodeLogs::switch_recorded, crate::proofs::NodeLogs::payer_recorded))]
     pub(crate) fn record(
         &mut self,
         node: Node,
@@ -112,6 +114,7 @@ impl NodeLogs {
 }
 
 /// As many logs of no calls, of the nodes of a kind, numbered from 1.
+#[tactic(auto, using(crate::proofs::NodeLogs::none_goes_on))]
 fn none_of(alloc: Global, kind: Kind, count: usize) -> Result<Vec<NodeLog>, AllocError>
     requires { count ≤ 65535 }
     ensures { IfOk result (λ logs. logs_seen logs.items ≡ none_from kind 1 count) }
@@ -124,6 +127,7 @@ fn none_of(alloc: Global, kind: Kind, count: usize) -> Result<Vec<NodeLog>, Allo
 }
 
 /// Records a call in the log of a number, where there is one.
+#[tactic(auto, using(std::proofs::lemmas::Result::on_ok_weaker, std::proofs::lemmas::Result::on_err_weaker, crate::proofs::NodeLogs::put_there, crate::proofs::NodeLogs::put_same))]
 fn record_at(
     logs: &mut Vec<NodeLog>,
     number: u16,

@@ -20,6 +20,7 @@ pub(crate) struct Recorded {
 
 impl Recorded {
     /// Makes these events, and records the call of each that is accepted.
+    #[tactic(auto, using(std::proofs::lemmas::List::drop_all, crate::proofs::Recording::Left, crate::proofs::Recording::all_made))]
     pub(crate) fn make_all(&mut self, alloc: Global, events: &[Event]) -> Result<(), AllocError>
         ensures { OnOk result (IsAfter (map event_seen events.now) self.old self.new) }
     {
@@ -30,6 +31,7 @@ impl Recorded {
     }
 
     /// Makes an event, and records its call where it is accepted.
+    #[tactic(auto, using(crate::proofs::Recording::refused_adds, crate::proofs::Recording::refused_stays))]
     fn make(&mut self, alloc: Global, event: &Event) -> Result<(), AllocError>
         ensures { OnOk result (IsAfter (event_seen event.now ∷ []) self.old self.new) }
     {
@@ -61,6 +63,7 @@ impl Recorded {
 }
 
 /// The packets from a number on, as they were sent.
+#[tactic(auto, using(crate::proofs::Recording::sents_go_on, crate::proofs::Recording::sents_are))]
 fn sent_from(alloc: Global, packets: &[Packet], first: u64) -> Result<Vec<Sent>, AllocError>
     ensures { IfOk result (λ all. map sent_seen all.items ≡ sent_from (map packet_seen packets.now) first) }
 {

@@ -31,7 +31,7 @@ fn put_ready(out: &mut Vec<u8>, calls: u64) -> Result<(), AllocError>
 }
 
 /// Appends a line for each packet that a node sent: `send`, the addressee and the packet in printed bytes.
-#[tactic(auto, unfolding(crate::specs::Answering::sent_lines))]
+#[tactic(auto, unfolding(crate::specs::Answering::sent_lines), using(crate::proofs::Loops::texts_go_on))]
 pub(crate) fn put_sent(out: &mut Vec<u8>, sent: &[Sent]) -> Result<(), AllocError>
     ensures { OnOk result (out.new.items ≡ out.old.items ++ sent_lines (map sent_seen sent.now)) }
 {

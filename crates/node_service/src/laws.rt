@@ -18,6 +18,7 @@ ghost use Rattle.node_service.specs.Serving.{Serving, after_line, cleared};
 ghost use Rattle.node_service.specs.Lines.{IsRestart, IsSame, IsServing, after_lines, joined, lines_kept, with_records};
 
 /// What a line adds hangs neither on the records that are to be appended nor on the words that are to be written.
+#[tactic(auto, using(crate::proofs::Lines::adds, crate::proofs::Lines::adds_all))]
 pub fn lines_add()
     ensures one { (s : Serving) (line : List ℕ) → after_line s line ≡ joined s (after_line (cleared s) line) }
     ensures all { (s : Serving) (lines : List (List ℕ)) → after_lines s lines ≡ joined s (after_lines (cleared s) lines) }
@@ -25,6 +26,7 @@ pub fn lines_add()
 
 /// A node that was opened makes the log of its file, and goes on to: each line adds its calls to the log, and their records
 /// to what is to be appended.
+#[tactic(auto, using(crate::proofs::Lines::is_opened_serving, crate::proofs::Lines::cleared_serves))]
 pub fn served_logs_grow()
     ensures opened { (settings : List ℕ) (node : Node) (rest : Option (List ℕ)) (bytes : List ℕ) (kept : ℕ) (s : Serving)
         → IsOpened settings node rest bytes kept s
@@ -48,6 +50,7 @@ pub fn restarts_are_the_same()
 /// A crash leaves of a log's file a beginning that has the text of its synced calls, whatever was noted of them; after it a
 /// record may be cut off. Such a file is read as the log of the process after that crash, and opens as the process that is
 /// restarted: what the theorems on crashes say of processes is true of files.
+#[tactic(auto, using(crate::proofs::Crashes::crashed_restarts))]
 pub fn crashed_files_restart()
     ensures { (settings begun : List ℕ) (node : Node) (rest : Option (List ℕ)) (p : Process) (kept : KeptLog) (n : ℕ)
         → bare kept ≡ record { node = node; calls = file p } → FitsKept kept

@@ -38,6 +38,7 @@ pub(crate) fn put_end(out: &mut Vec<u8>) -> Result<(), AllocError>
 }
 
 /// Appends a line for each entry without an answer, from the entry of a number on, this many at most.
+#[tactic(auto, using(crate::proofs::OpenEntries::told_first))]
 fn put_entries(
     out: &mut Vec<u8>,
     journal: &JournalReading<'_>,

@@ -94,6 +94,7 @@ impl Service {
 
 /// The node that makes the log which bytes are, as they are read, from what it begins with; `None` where they are none, or it does
 /// not make them.
+#[tactic(auto, using(crate::proofs::MadeLogs::is_read))]
 fn made(
     alloc: Global,
     digest: &SettingsDigest,

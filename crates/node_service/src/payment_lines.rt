@@ -13,7 +13,7 @@ use payer_book::Book;
 use std::alloc::AllocError;
 
 /// Appends a line for each payment.
-#[tactic(auto, unfolding(crate::specs::Payments::payment_lines))]
+#[tactic(auto, unfolding(crate::specs::Payments::payment_lines), using(crate::proofs::Loops::texts_go_on, crate::proofs::Loops::texts_are_done))]
 pub(crate) fn put_payments(out: &mut Vec<u8>, payments: &[NodePayment]) -> Result<(), AllocError>
     ensures { OnOk result (out.new.items ≡ out.old.items ++ payment_lines payments.now) }
 {
@@ -24,6 +24,7 @@ pub(crate) fn put_payments(out: &mut Vec<u8>, payments: &[NodePayment]) -> Resul
 }
 
 /// Appends a line for each payment of a book, this many at most from the one of a number on; they are numbered from 1.
+#[tactic(auto, unfolding(crate::specs::Payments::payment_lines), using(crate::proofs::Pages::page_ends, crate::proofs::Pages::page_goes_on, crate::proofs::Pages::page_stops))]
 pub(crate) fn put_book_page(
     out: &mut Vec<u8>,
     book: &Book,

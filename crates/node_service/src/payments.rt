@@ -70,6 +70,7 @@ fn front(list: &[NodePayment], count: u64) -> &[NodePayment]
 }
 
 /// The payment of a book after so many, and so many more, in the order in which they were made: it has the serial of that place.
+#[tactic(auto, using(crate::proofs::Serials::at_place, crate::proofs::Serials::auth_at, crate::proofs::Serials::none_past))]
 pub(crate) fn payment_after(book: &Book, passed: u64, more: u64) -> Option<NodePayment>
     ensures { (routes : RouteMaps)
         → result ≡ slice_get (book_payments (bytes_with routes) book.now) (passed + more) }
@@ -164,6 +165,7 @@ fn counted_payment(payment: &CountedPayment) -> NodePayment
 }
 
 /// The payments of a book, in the order in which they were made.
+#[tactic(auto, using(crate::proofs::Loops::texts_are_done))]
 fn book_payments(alloc: Global, book: &Book) -> Result<Vec<NodePayment>, AllocError>
     ensures { (routes : RouteMaps) → IfOk result (λ list. list.items ≡ book_payments (bytes_with routes) book.now) }
 {

@@ -29,6 +29,7 @@ pub fn made_logs(
 }
 
 /// The same under settings that the nodes share.
+#[tactic(auto, using(crate::proofs::Standing::made_of))]
 fn made_under(
     alloc: Global,
     shared: &Arc<CheckedSettings>,

@@ -50,6 +50,7 @@ impl Unlogged {
     }
 
     /// Has one of these switches stop, start, and take these packets, in order. A node that is none of them is passed over.
+    #[tactic(auto, using(std::proofs::lemmas::Result::on_ok_weaker, crate::proofs::Standing::same_who))]
     pub(crate) fn hand(
         &mut self,
         alloc: Global,
@@ -90,6 +91,7 @@ impl Unlogged {
 }
 
 /// Adds the switch at a place, as it opens, where none of these logs is of it.
+#[tactic(auto, using(crate::proofs::Standing::switch_opens))]
 fn add_unlogged(
     alloc: Global,
     shared: &Arc<CheckedSettings>,

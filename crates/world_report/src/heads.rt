@@ -45,6 +45,7 @@ fn power_word(up: bool) -> &'static [u8]
 }
 
 /// Appends the line of an event that was made: its number from 1, and the numbers of the packets that it sent.
+#[tactic(auto, using(std::proofs::lemmas::Result::on_ok_weaker))]
 pub fn put_done(out: &mut Vec<u8>, event: u64, sent: Range<u64>) -> Result<(), AllocError>
     ensures { OnOk result (AddsLine out.old out.new
         (done_line event (numbers_from sent.start (sent.end - sent.start)))) }

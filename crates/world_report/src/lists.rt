@@ -16,6 +16,7 @@ use std::alloc::AllocError;
 use switch_node::InFlight;
 
 /// Appends the lines of the entries that a journal has left to tell.
+#[tactic(auto, using(crate::proofs::Joining::block_ends))]
 pub(crate) fn put_entries(out: &mut Vec<u8>, teller: &mut Teller<'_>) -> Result<(), AllocError>
     ensures lines { OnOk result (AddsLines out.old out.new
         (flat_map entry_lines (listed_from teller.old.number teller.old.left))) }

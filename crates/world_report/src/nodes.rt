@@ -53,6 +53,7 @@ fn put_journal(
 }
 
 /// Appends the lines of all entries and those of all counted payments.
+#[tactic(auto, unfolding(pharmacy_journal::specs::Listing::listed), using(std::proofs::lemmas::Result::on_ok_weaker, crate::proofs::Joining::lines_join))]
 fn put_told(out: &mut Vec<u8>, journal: &JournalReading<'_>) -> Result<(), AllocError>
     ensures { TellsLines out.old out.new (λ ctx. told_lines ctx journal.now) result }
 {
@@ -90,6 +91,7 @@ fn put_switch(
 }
 
 /// Appends the lines of a table.
+#[tactic(auto, using(std::proofs::lemmas::Result::on_ok_weaker, crate::proofs::JoinedWords::lines_join))]
 fn put_in_flights(
     out: &mut Vec<u8>,
     number: u64,
@@ -130,6 +132,7 @@ fn put_payer(
 }
 
 /// Appends the lines of a book.
+#[tactic(auto, using(std::proofs::lemmas::Result::on_ok_weaker, crate::proofs::JoinedWords::lines_join))]
 fn put_book(out: &mut Vec<u8>, number: u64, up: bool, book: &Book) -> Result<(), AllocError>
     ensures { TellsLines out.old out.new (λ ctx. book_lines ctx number up book.now.rows) result }
 {

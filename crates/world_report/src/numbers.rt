@@ -8,6 +8,7 @@ use crate::backwards::{LINE, byte_before, digits_before};
 use std::alloc::AllocError;
 
 /// Appends a space and a number in decimal, in one piece.
+#[tactic(auto, using(std::proofs::lemmas::Result::on_ok_weaker, crate::proofs::NextDigits::one_word))]
 pub fn put_number(out: &mut Vec<u8>, number: u64) -> Result<(), AllocError>
     ensures { OnOk result (AddsWords out.old out.new (decimal number ∷ [])) }
 {

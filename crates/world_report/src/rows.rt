@@ -14,6 +14,7 @@ use std::alloc::AllocError;
 use switch_node::InFlight;
 
 /// Appends the line of a request in flight: its transaction, and `answered` or `open`.
+#[tactic(auto, using(std::proofs::lemmas::Result::on_ok_weaker, crate::proofs::JoinedWords::line_joins))]
 pub fn put_in_flight(out: &mut Vec<u8>, request: &InFlight) -> Result<(), AllocError>
     ensures { OnOk result (AddsLine out.old out.new (flight_line request.now.id request.now.answered)) }
 {
@@ -47,6 +48,7 @@ pub(crate) fn put_row_place(
 }
 
 /// Appends a ruling and whether its payment stands.
+#[tactic(auto, using(std::proofs::lemmas::Result::on_ok_weaker, crate::proofs::JoinedWords::words_join))]
 fn put_ruled(out: &mut Vec<u8>, ruling: &Ruling, reversed: bool) -> Result<(), AllocError>
     ensures { OnOk result (AddsWords out.old out.new (row_words ruling.now reversed)) }
 {

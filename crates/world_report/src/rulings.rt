@@ -44,6 +44,7 @@ pub fn put_ruling(out: &mut Vec<u8>, ruling: &Ruling) -> Result<(), AllocError>
 }
 
 /// Appends the line of a payment that a pharmacy counts: `paid`, the authorization and the amounts.
+#[tactic(auto, using(std::proofs::lemmas::Result::on_ok_weaker, crate::proofs::JoinedWords::line_joins))]
 pub fn put_paid(out: &mut Vec<u8>, payment: &CountedPayment) -> Result<(), AllocError>
     ensures { OnOk result (AddsLine out.old out.new (paid_line payment.now)) }
 {
@@ -63,6 +64,7 @@ fn put_payment(out: &mut Vec<u8>, auth: Auth, amounts: Amounts) -> Result<(), Al
 }
 
 /// Writes an authorization and amounts at the end of a text, each after a space, and gives the place where they begin.
+#[tactic(auto, using(crate::proofs::Payments::payment_text))]
 fn write_payment(auth: Auth, amounts: Amounts, text: &mut [u8; PAYMENT]) -> usize
     ensures within { result ≤ 61 }
     ensures written { drop result text.new ≡ behind_spaces (payment_words auth amounts) }
@@ -112,6 +114,7 @@ fn write_number(number: u32, text: &mut [u8; PAYMENT], end: usize) -> usize
 }
 
 /// Appends a word of reject codes with a comma between them.
+#[tactic(auto, using(std::proofs::lemmas::Result::on_ok_weaker, crate::proofs::Payments::no_codes_join))]
 fn put_codes(out: &mut Vec<u8>, codes: &[Code]) -> Result<(), AllocError>
     ensures { OnOk result (AddsWords out.old out.new (codes_word codes.now ∷ [])) }
 {

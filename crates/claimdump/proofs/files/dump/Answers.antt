@@ -1,17 +1,9 @@
 use Rattle.std.proofs.Common.{map, ap, ◌∙◌}
-use Rattle.std.proofs.lemmas.Result.{err_from_is_err_and}
 use Rattle.schedule.specs.Division.{settings_text}
 use Rattle.settings_digest.specs.Digests.{digest_in}
 use Rattle.world_setup.specs.Seen.{event_seen}
-use Rattle.claimdump.proofs.Refusing.{unscheduled, files_are}
+use Rattle.claimdump.proofs.Refusing.{files_are}
 use Rattle.claimdump.proofs.files.dump.Goals as goal
-
-pub returns-in_err-events-clause-refused : goal.returns-in_err-events-clause-refused
-returns-in_err-events-clause-refused c =
-    let settled = rw (c.as_slice.ensures.value, c.in_ok-parts.ensures.settings) at c.in_ok-settings.ensures.settled in
-    let why = rw c.in_ok-parts.ensures.schedule at c.in_err-events.ensures.refused in
-    let p = err_from_is_err_and c.from_residual-in_err-events.result c.from_residual-in_err-events.ensures.1 in
-    rw (p.1, p.2) (unscheduled c.args.input.now c.in_ok-settings.settings c.in_err-events.field-0.0 settled why)
 
 pub returns-clause-dumped : goal.returns-clause-dumped
 returns-clause-dumped c =

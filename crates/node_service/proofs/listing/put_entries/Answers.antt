@@ -1,9 +1,6 @@
 use Rattle.std.proofs.Common.{arith}
-use Rattle.node_service.proofs.OpenEntries.{told_first, told_next, told_enough, told_all}
+use Rattle.node_service.proofs.OpenEntries.{told_next, told_enough, told_all}
 use Rattle.node_service.proofs.listing.put_entries.Goals as goal
-
-pub loop-place-init : goal.loop-place-init
-loop-place-init c = told_first c.args.out.now.items c.args.journal.now.entries c.args.number _ c.args.count c.saturating_sub-place.ensures
 
 pub returns-then-left-eq0 : goal.returns-then-left-eq0
 returns-then-left-eq0 c = told_enough c.loop-place.out.items _ c.args.journal.now.entries c.loop-place.place c.loop-place.left c.if-left-eq0.true c.loop-place.invariant

@@ -10,7 +10,3 @@ pub returns-in-Some-clause-noted : goal.returns-in-Some-clause-noted
 returns-in-Some-clause-noted c = λ list has.
     added_again list c.args.numbers.now.entries c.args.one.now c.in-Some.field-0.now
     (ap (λ (name : List ℕ). lookup (is_name name) c.args.numbers.now.entries) (sym c.name.ensures) ∙ (sym c.get.ensures.value ∙ ap option_copied c.in-Some.is)) has
-
-pub insert_number-requires : goal.insert_number-requires
-insert_number-requires c =
-    ap (λ (name : List ℕ). lookup (is_name name) c.args.numbers.now.entries) (sym c.name.ensures) ∙ (sym c.get.ensures.value ∙ ap option_copied c.in-None.is)

@@ -1,19 +1,9 @@
-use Rattle.std.proofs.Common.{◌≡◌, ℕ, List, [], ◌∷◌, ◌++◌, ◌-◌, map, sym, ap, ◌∙◌}
+use Rattle.std.proofs.Common.{[], ◌∷◌, ◌-◌, map}
 use Rattle.std.specs.Prelude.{codes, decimal}
 use Rattle.std.proofs.lemmas.Result.{on_ok_weaker}
-use Rattle.world_report.specs.Words.{line_text}
-use Rattle.world_report.specs.Heads.{numbers_from, done_line}
+use Rattle.world_report.specs.Heads.{numbers_from}
 use Rattle.world_report.proofs.JoinedWords.{words_join, line_joins}
 use Rattle.world_report.proofs.heads.put_done.Goals as goal
-
-pub returns-then-is_one : goal.returns-then-is_one
-returns-then-is_one c =
-    let sent = c.args.sent in
-    let one : sent.end - sent.start ≡ 1 = c.is_one.ensures c.if-is_one.true in
-    let numbers : numbers_from sent.start (sent.end - sent.start) ≡ sent.start ∷ [] = ap (numbers_from sent.start) one in
-    on_ok_weaker c.put_done_with_one.result
-    (λ told. told ∙ ap (λ (ps : List ℕ). c.args.out.now.items ++ line_text (done_line c.args.event ps)) (sym numbers))
-    c.put_done_with_one.ensures
 
 pub returns : goal.returns
 returns c =

@@ -1,11 +1,10 @@
-use Rattle.std.proofs.Common.{◌++◌, Bool, true, false, List, sym, ap, ◌∙◌, subst}
+use Rattle.std.proofs.Common.{◌++◌, Bool, true, List, sym, ap, ◌∙◌, subst}
 use Rattle.std.specs.List.{flat_map}
-use Rattle.claim_model.specs.Journal.{Kept}
 use Rattle.pharmacy_journal.specs.Listing.{Listed, listed_from}
 use Rattle.pharmacy_journal.specs.Telling.{TellsNext}
 use Rattle.world_report.specs.Words.{lines_text}
 use Rattle.world_report.specs.Places.{entry_lines}
-use Rattle.world_report.proofs.Joining.{block_goes_on, block_ends}
+use Rattle.world_report.proofs.Joining.{block_goes_on}
 use Rattle.world_report.proofs.lists.put_entries.Goals as goal
 
 pub entries-preserved : goal.entries-preserved
@@ -19,9 +18,3 @@ entries-preserved c =
           (sym (ap (λ (es : List Listed). l.out.items ++ lines_text (flat_map entry_lines es)) told.0) ∙ l.invariant.lines);
       same = c.next.ensures.same ∙ l.invariant.same;
     }
-
-pub returns-clause-lines : goal.returns-clause-lines
-returns-clause-lines c =
-    let l = c.entries in
-    let told : TellsNext l.teller c.next.new.self false = subst (λ (more : Bool). TellsNext l.teller c.next.new.self more) c.if-branch.false c.in_ok-next.ensures.next in
-    block_ends l.out.items _ (sym (ap (λ (ks : List Kept). l.out.items ++ lines_text (flat_map entry_lines (listed_from l.teller.number ks))) told.0) ∙ l.invariant.lines)

@@ -1,10 +1,7 @@
 use Rattle.std.proofs.Common.{arith}
 use Rattle.std.proofs.lemmas.Result.{on_ok_weaker}
-use Rattle.world_report.proofs.Payments.{codes_split_join, no_codes_join}
+use Rattle.world_report.proofs.Payments.{codes_split_join}
 use Rattle.world_report.proofs.rulings.put_codes.Goals as goal
-
-pub returns-in_default : goal.returns-in_default
-returns-in_default c = on_ok_weaker c.put_word.result (λ last. no_codes_join c.args.out.now.items c.put_word.new.out.items c.args.codes.now c.in_default.len_below last) c.put_word.ensures
 
 pub returns : goal.returns
 returns c =

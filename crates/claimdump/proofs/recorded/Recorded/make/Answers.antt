@@ -1,10 +1,10 @@
-use Rattle.std.proofs.Common.{sym, ap, ◌∙◌}
+use Rattle.std.proofs.Common.{ap, ◌∙◌}
 use Rattle.std.specs.Prelude.{option_map}
 use Rattle.std.proofs.lemmas.Result.{on_ok_weaker}
 use Rattle.world_setup.specs.Seen.{event_seen}
 use Rattle.world_core.specs.Parts.{WorldParts, context_of}
 use Rattle.claimdump.specs.Calls.{asked_of}
-use Rattle.claimdump.proofs.Recording.{made, refused_adds, refused_stays}
+use Rattle.claimdump.proofs.Recording.{made}
 use Rattle.claimdump.proofs.recorded.Recorded.make.Goals as goal
 
 pub returns-in-Ok : goal.returns-in-Ok
@@ -20,13 +20,3 @@ returns-in-Ok c =
       logs = m.logs;
     })
     c.note.ensures.logs
-
-pub returns : goal.returns
-returns c =
-    let before = c.args.self.now.world in
-    let q = rw c.in-Err-Refused.field-0-is at c.in-Err-Refused.ensures.fault in
-    record {
-      world = ap (λ (w : WorldParts). w.world) c.in-Err-Refused.ensures.err ∙ refused_stays (context_of before) before.world (event_seen c.args.event.now) _ q;
-      routes = c.step.ensures.routes;
-      logs = sym (refused_adds (context_of before) before.world (event_seen c.args.event.now) _ q c.args.self.now.logs);
-    }

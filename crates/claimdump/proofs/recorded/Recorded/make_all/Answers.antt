@@ -1,8 +1,8 @@
 use Rattle.std.proofs.Common.{◌+◌, List, ◌∷◌, drop, map, sym, ap, subst, ◌∙◌}
-use Rattle.std.proofs.lemmas.List.{at_drop_more, drop_all}
+use Rattle.std.proofs.lemmas.List.{at_drop_more}
 use Rattle.world_setup.specs.Seen.{event_seen}
 use Rattle.world_setup.specs.declared.event.Event.{Event}
-use Rattle.claimdump.proofs.Recording.{Left, goes_on, all_made}
+use Rattle.claimdump.proofs.Recording.{Left, goes_on}
 use Rattle.claimdump.proofs.recorded.Recorded.make_all.Goals as goal
 
 pub loop-event-preserved : goal.loop-event-preserved
@@ -13,8 +13,3 @@ loop-event-preserved c =
     goes_on c.args.self.now c.loop-event.self c.make.new.self (event_seen next) (map event_seen (drop (i + 1) events)) (map event_seen events) c.in_ok-make.ensures
     (subst (λ (left : List Event). Left c.args.self.now c.loop-event.self (map event_seen left) (map event_seen events))
     (at_drop_more (λ (left : List Event). left) events i next c.loop-event-test.true ∙ ap (λ (e : Event). e ∷ drop (i + 1) events) (sym c.event-item.is)) c.loop-event.invariant)
-
-pub returns : goal.returns
-returns c =
-    all_made c.args.self.now c.loop-event.self (map event_seen c.args.events.now)
-    (subst (λ (left : List Event). Left c.args.self.now c.loop-event.self (map event_seen left) (map event_seen c.args.events.now)) (drop_all c.loop-event.event-index c.args.events.now c.loop-event-test.false) c.loop-event.invariant)
