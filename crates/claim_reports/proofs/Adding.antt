@@ -58,7 +58,7 @@ apart_at k q apart = elim (cases_lt k q) [
 ]
 
 -- numbers, or none, compare as equal where they are
-at_nat : (k q : ℕ) → is_at (nat_cmp k) q ≡ (k == q)
+pub at_nat : (k q : ℕ) → is_at (nat_cmp k) q ≡ (k == q)
 at_nat k q = grind arith
 
 at_key : (k q : Option ℕ) → is_at (key_cmp k) q ≡ option_eq nat_eq k q

@@ -1,52 +1,55 @@
 -- Maps of the elements of lists, and what is found by them.
-use Rattle.std.proofs.Common.{◌≡◌, ◌<◌, ℕ, ◌+◌, ◌==◌, Bool, cond, List, [], ◌∷◌, ◌++◌, length, get_or, drop, refl, sym, ap, subst, ◌∙◌, inl, inr}
+use Rattle.std.proofs.Common.{◌≡◌, ℕ, ◌==◌, Bool, true, false, cond, List, [], ◌∷◌, ◌++◌, map, refl, ap, ◌∙◌}
 use Rattle.std.specs.Prelude.{Option, Some, None}
 use Rattle.std.specs.Option.{option_or}
-use Rattle.std.specs.Ordering.{nat_cmp}
-use Rattle.std.specs.List.{flat_map}
-use Rattle.std.specs.BTreeMap.{BTreeMap, Updates, get}
-use Rattle.std.proofs.lemmas.Bool.{cases_Bool, eqb-true, eqb-false}
-use Rattle.std.proofs.lemmas.List.{drop_more}
+use Rattle.std.specs.Ordering.{eq_by_cmp, nat_cmp}
+use Rattle.std.specs.List.{cons_option, filter_map, flat_map}
+use Rattle.std.specs.Map.{update, update_all}
+use Rattle.std.specs.BTreeMap.{BTreeMap, IsFromIterResult, get}
 use Rattle.claim_reports.specs.declared.beside.Counted.{Counted}
 use Rattle.claim_reports.specs.declared.beside.Made.{Made}
 use Rattle.claim_reports.specs.declared.beside.Entry.{Entry}
 use Rattle.claim_reports.specs.declared.beside.Finding.{Finding}
-use Rattle.claim_reports.specs.Comparing.{last_with, made_under, entry_under, counted_under, told, counted_finding, made_finding, findings, Findings}
-use Rattle.claim_reports.proofs.Adding.{apart_at}
+use Rattle.claim_reports.specs.Comparing.{last_with, told, counted_finding, made_finding, findings, Findings}
+use Rattle.claim_reports.proofs.Adding.{at_nat}
 
--- the last of some elements, or else the one that a map has, where one of them is entered before the others
-settled : {A : Type 0} (o : Option A) (x : A) (p : Option A) → option_or o (Some x) ≡ option_or (option_or o (Some x)) p
-settled None x p = refl
-settled (Some y) x p = refl
+-- a map of elements by their numbers has the last one of each number
+entered : {A : Type 0} (o : Option A) (b : Bool) (x : A) (p : Option A) → option_or o (cond b (Some x) p) ≡ option_or (option_or o (cond b (Some x) None)) p
+entered None true x p = refl
+entered None false x p = refl
+entered (Some y) b x p = refl
 
-passed : {A : Type 0} (o p : Option A) → option_or o p ≡ option_or (option_or o None) p
-passed None p = refl
-passed (Some y) p = refl
+last_among : {A : Type 0} (number : A → ℕ) (n : ℕ) (xs : List A) (f : ℕ → Option A)
+    → update_all (eq_by_cmp nat_cmp) f (map (λ x. (number x, x)) xs) n ≡ option_or (last_with number n xs) (f n)
+last_among number n [] f = refl
+last_among number n (x ∷ more) f =
+    last_among number n more (update (eq_by_cmp nat_cmp) f (number x) (Some x))
+    ∙ ap (λ (b : Bool). option_or (last_with number n more) (cond b (Some x) (f n))) (at_nat (number x) n)
+    ∙ entered (last_with number n more) (number x == n) x (f n)
 
-pub last_later : {A : Type 0} (number : A → ℕ) (n : ℕ) (x : A) (more : List A) (old new : BTreeMap ℕ A) → Updates nat_cmp old new (number x) (Some x)
-    → option_or (last_with number n more) (get nat_cmp new n) ≡ option_or (last_with number n (x ∷ more)) (get nat_cmp old n)
-last_later {A} number n x more old new updates =
-    let rest = last_with number n more in
-    elim (cases_Bool (number x == n)) [
-      | inl same ↦
-          ap (option_or rest) (subst (λ (k : ℕ). get nat_cmp new k ≡ Some x) (eqb-true (number x) n same) updates.1)
-          ∙ settled rest x (get nat_cmp old n) ∙ sym (ap (λ (b : Bool). option_or (option_or rest (cond b (Some x) None)) (get nat_cmp old n)) same)
-      | inr other ↦
-          ap (option_or rest) (updates.2 n (apart_at (number x) n (eqb-false (number x) n other)))
-          ∙ passed rest (get nat_cmp old n) ∙ sym (ap (λ (b : Bool). option_or (option_or rest (cond b (Some x) None)) (get nat_cmp old n)) other)
-    ]
+or_nothing : {A : Type 0} (o : Option A) → option_or o None ≡ o
+or_nothing None = refl
+or_nothing (Some x) = refl
 
--- the same of a list, at a place
-pub last_next : {A : Type 0} (number : A → ℕ) (n : ℕ) (xs : List A) (i : ℕ) (d : A) (old new : BTreeMap ℕ A) → i < length xs → Updates nat_cmp old new (number (get_or xs i d)) (Some (get_or xs i d))
-    → option_or (last_with number n (drop (i + 1) xs)) (get nat_cmp new n) ≡ option_or (last_with number n (drop i xs)) (get nat_cmp old n)
-last_next {A} number n xs i d old new lt updates =
-    last_later number n (get_or xs i d) (drop (i + 1) xs) old new updates ∙ ap (λ (ys : List A). option_or (last_with number n ys) (get nat_cmp old n)) (sym (drop_more xs i d lt))
+pub last_is : {A : Type 0} (number : A → ℕ) (xs : List A) (by : BTreeMap ℕ A) → IsFromIterResult nat_cmp (map (λ x. (number x, x)) xs) by → (n : ℕ) → get nat_cmp by n ≡ last_with number n xs
+last_is number xs by made n = made.0 n ∙ last_among number n xs (λ _. None) ∙ or_nothing (last_with number n xs)
+
+-- what is found of elements
+picked : {A : Type 0} (find : A → Option Finding) (xs : List A) → filter_map find xs ≡ flat_map (λ x. told (find x)) xs
+picked find [] = refl
+picked find (x ∷ more) = one (find x) (filter_map find more) ∙ ap (λ (found : List Finding). told (find x) ++ found) (picked find more)
+  where
+    one : (o : Option Finding) (found : List Finding) → cons_option o found ≡ told o ++ found
+    one None found = refl
+    one (Some f) found = refl
 
 -- what is found by maps is what is found of the lists
-pub found_is : (counted : List Counted) (entries : List Entry) (made : List Made) (held : ℕ → Option Entry) (known : ℕ → Option Counted) (paid : ℕ → Option Made) (some all : List Finding)
-    → ((n : ℕ) → held n ≡ entry_under n entries) → ((a : ℕ) → known a ≡ counted_under a counted) → ((a : ℕ) → paid a ≡ made_under a made)
-    → some ≡ [] ++ flat_map (λ c. told (counted_finding held paid c)) counted → all ≡ some ++ flat_map (λ m. told (made_finding held known m)) made
+pub found_is : (counted : List Counted) (entries : List Entry) (made : List Made) (held : BTreeMap ℕ Entry) (known : BTreeMap ℕ Counted) (paid : BTreeMap ℕ Made) (all : List Finding)
+    → IsFromIterResult nat_cmp (map (λ (e : Entry). (e.number, e)) entries) held → IsFromIterResult nat_cmp (map (λ (c : Counted). (c.auth, c)) counted) known
+    → IsFromIterResult nat_cmp (map (λ (m : Made). (m.auth, m)) made) paid
+    → all ≡ filter_map (counted_finding (get nat_cmp held) (get nat_cmp paid)) counted ++ filter_map (made_finding (get nat_cmp held) (get nat_cmp known)) made
     → Findings counted entries made all
-found_is counted entries made held known paid some all opens knows pays one two =
-    two ∙ (ap (λ (t : List Finding). t ++ flat_map (λ m. told (made_finding held known m)) made) one
-    ∙ (λ i. findings (λ n. opens n i) (λ a. knows a i) (λ a. pays a i) counted made))
+found_is counted entries made held known paid all opens knows pays is =
+    is ∙ (λ i. picked (counted_finding (get nat_cmp held) (get nat_cmp paid)) counted i ++ picked (made_finding (get nat_cmp held) (get nat_cmp known)) made i)
+    ∙ (λ i. findings (λ n. last_is (λ (e : Entry). e.number) entries held opens n i) (λ a. last_is (λ (c : Counted). c.auth) counted known knows a i)
+    (λ a. last_is (λ (m : Made). m.auth) made paid pays a i) counted made)

@@ -1,11 +1,14 @@
 //! What a pharmacy counts beside what a payer paid.
 
-ghost use Rattle.std.specs.Prelude.{◌≡◌, ◌++◌, ℕ, IfErr, IfOk, OnOk};
-ghost use Rattle.std.specs.List.{flat_map};
+ghost use Rattle.std.specs.Prelude.{◌≡◌, ◌++◌, map, IfErr, IfOk};
+ghost use Rattle.std.specs.List.{filter_map};
 ghost use Rattle.std.specs.Ordering.{nat_cmp};
-ghost use Rattle.std.specs.BTreeMap.{get};
+ghost use Rattle.std.specs.BTreeMap.{IsFromIterResult, get};
+ghost use Rattle.claim_reports.specs.declared.beside.Counted.{Counted};
+ghost use Rattle.claim_reports.specs.declared.beside.Entry.{Entry};
+ghost use Rattle.claim_reports.specs.declared.beside.Made.{Made};
 ghost use Rattle.claim_reports.specs.declared.fault.ReportFault.TheVariants.{OutOfMemory};
-ghost use Rattle.claim_reports.specs.Comparing.{made_under, entry_under, counted_under, is_open_entry, Findings, told, counted_finding, made_finding, same_figures};
+ghost use Rattle.claim_reports.specs.Comparing.{is_open_entry, Findings, counted_finding, made_finding, same_figures};
 
 use crate::fault::ReportFault;
 use std::alloc::{AllocError, Global};
@@ -91,97 +94,61 @@ pub fn compare(
     let held = entries_by_number(alloc, entries)?;
     let paid = made_by_auth(alloc, made)?;
     let known = counted_by_auth(alloc, counted)?;
-    let mut found = Vec::new(alloc);
-    put_counted(&mut found, &held, &paid, counted)?;
-    put_made(&mut found, &held, &known, made)?;
-    Ok(found)
+    Ok(found(alloc, &held, &known, &paid, counted, made)?)
 }
 
-/// The entries by their numbers.
+/// The entries by their numbers; of several with one the last.
 pub(crate) fn entries_by_number(
     alloc: Global,
     entries: &[Entry],
-) -> Result<BTreeMap<u64, Entry>, ReportFault>
-    ensures under { IfOk result (λ by. (number : ℕ) → get nat_cmp by number ≡ entry_under number entries.now) }
-    ensures memory { IfErr result (λ e. e ≡ OutOfMemory) }
+) -> Result<BTreeMap<u64, Entry>, AllocError>
+    ensures { IfOk result (IsFromIterResult nat_cmp (map (λ (e : Entry). (e.number, e)) entries.now)) }
 {
-    let mut by = BTreeMap::new(alloc);
-    for entry in entries {
-        by.insert(entry.number, *entry)?;
-    }
-    Ok(by)
+    entries
+        .iter()
+        .map(|entry| (entry.number, *entry))
+        .collect(alloc)
 }
 
 /// The payments of a book by their authorizations.
-fn made_by_auth(alloc: Global, made: &[Made]) -> Result<BTreeMap<u64, Made>, ReportFault>
-    ensures under { IfOk result (λ by. (auth : ℕ) → get nat_cmp by auth ≡ made_under auth made.now) }
-    ensures memory { IfErr result (λ e. e ≡ OutOfMemory) }
+fn made_by_auth(alloc: Global, made: &[Made]) -> Result<BTreeMap<u64, Made>, AllocError>
+    ensures { IfOk result (IsFromIterResult nat_cmp (map (λ (m : Made). (m.auth, m)) made.now)) }
 {
-    let mut by = BTreeMap::new(alloc);
-    for payment in made {
-        by.insert(payment.auth, *payment)?;
-    }
-    Ok(by)
+    made.iter()
+        .map(|payment| (payment.auth, *payment))
+        .collect(alloc)
 }
 
 /// The payments that a pharmacy counts by their authorizations.
-fn counted_by_auth(
+fn counted_by_auth(alloc: Global, counted: &[Counted]) -> Result<BTreeMap<u64, Counted>, AllocError>
+    ensures { IfOk result (IsFromIterResult nat_cmp (map (λ (c : Counted). (c.auth, c)) counted.now)) }
+{
+    counted
+        .iter()
+        .map(|payment| (payment.auth, *payment))
+        .collect(alloc)
+}
+
+/// What is found of the payments that the pharmacy counts, and of those of the book.
+fn found(
     alloc: Global,
-    counted: &[Counted],
-) -> Result<BTreeMap<u64, Counted>, ReportFault>
-    ensures under { IfOk result (λ by. (auth : ℕ) → get nat_cmp by auth ≡ counted_under auth counted.now) }
-    ensures memory { IfErr result (λ e. e ≡ OutOfMemory) }
-{
-    let mut by = BTreeMap::new(alloc);
-    for payment in counted {
-        by.insert(payment.auth, *payment)?;
-    }
-    Ok(by)
-}
-
-/// Adds what is found of each payment that the pharmacy counts.
-fn put_counted(
-    found: &mut Vec<Finding>,
-    held: &BTreeMap<u64, Entry>,
-    paid: &BTreeMap<u64, Made>,
-    counted: &[Counted],
-) -> Result<(), AllocError>
-    ensures { OnOk result (found.new.items ≡ found.old.items
-        ++ flat_map (λ c. told (counted_finding (get nat_cmp held.now) (get nat_cmp paid.now) c)) counted.now) }
-{
-    for payment in counted {
-        put(found, counted_finding(held, paid, payment))?;
-    }
-    Ok(())
-}
-
-/// Adds what is found of each payment of the book.
-fn put_made(
-    found: &mut Vec<Finding>,
     held: &BTreeMap<u64, Entry>,
     known: &BTreeMap<u64, Counted>,
+    paid: &BTreeMap<u64, Made>,
+    counted: &[Counted],
     made: &[Made],
-) -> Result<(), AllocError>
-    ensures { OnOk result (found.new.items ≡ found.old.items
-        ++ flat_map (λ m. told (made_finding (get nat_cmp held.now) (get nat_cmp known.now) m)) made.now) }
+) -> Result<Vec<Finding>, AllocError>
+    ensures { IfOk result (λ found. found.items
+        ≡ filter_map (counted_finding (get nat_cmp held.now) (get nat_cmp paid.now)) counted.now
+        ++ filter_map (made_finding (get nat_cmp held.now) (get nat_cmp known.now)) made.now) }
 {
-    for payment in made {
-        put(found, made_finding(held, known, payment))?;
-    }
-    Ok(())
-}
-
-/// Adds a finding, where there is one.
-fn put(found: &mut Vec<Finding>, finding: Option<Finding>) -> Result<(), AllocError>
-    ensures { OnOk result (found.new.items ≡ found.old.items ++ told finding) }
-{
-    match finding {
-        Some(finding) => {
-            found.push(finding)?;
-            Ok(())
-        }
-        None => Ok(()),
-    }
+    let of_counted = counted
+        .iter()
+        .filter_map(|payment| counted_finding(held, paid, payment));
+    let of_made = made
+        .iter()
+        .filter_map(|payment| made_finding(held, known, payment));
+    of_counted.chain(of_made).collect(alloc)
 }
 
 /// What is found of a payment that the pharmacy counts.
@@ -243,8 +210,5 @@ impl Figures {
 fn is_open(held: &BTreeMap<u64, Entry>, number: u64) -> bool
     ensures { result ≡ is_open_entry (get nat_cmp held.now number) }
 {
-    match held.get(&number) {
-        Some(entry) => entry.open,
-        None => false,
-    }
+    held.get(&number).is_some_and(|entry| entry.open)
 }

@@ -202,10 +202,7 @@ fn put_behind(out: &mut Vec<u8>, spans: &[Span]) -> Result<(), AllocError>
 fn more_of(books: Option<Books>, part: &[u8]) -> Option<Books>
     ensures { result ≡ more_of books part.now }
 {
-    match books {
-        Some(books) => books.with(part),
-        None => None,
-    }
+    books?.with(part)
 }
 
 /// What stands before a place.

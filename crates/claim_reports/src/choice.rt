@@ -47,13 +47,8 @@ pub fn chosen(alloc: Global, choice: &Choice, paid: &[Paid]) -> Result<Vec<Paid>
     // It is refused for want of memory alone.
     ensures memory { IfErr result (λ e. e ≡ OutOfMemory) }
 {
-    let mut kept = Vec::new(alloc);
-    for payment in paid {
-        if choice.has(payment) {
-            kept.push(*payment)?;
-        }
-    }
-    Ok(kept)
+    let kept = paid.iter().filter(|payment| choice.has(*payment));
+    Ok(kept.copied().collect(alloc)?)
 }
 
 impl Choice {
@@ -72,44 +67,26 @@ impl Choice {
 fn is_of(books: Option<Books>, number: u64) -> bool
     ensures { result ≡ is_of books number }
 {
-    match books {
-        Some(books) => books.has(number),
-        None => true,
-    }
+    books.is_none_or(|books| books.has(number))
 }
 
 /// Whether a number is the one that is wanted, where one is.
 fn is_number(wanted: Option<u64>, number: u64) -> bool
     ensures { result ≡ is_number wanted number }
 {
-    match wanted {
-        Some(wanted) => number == wanted,
-        None => true,
-    }
+    wanted.is_none_or(|wanted| number == wanted)
 }
 
 /// Whether a day is the first that is wanted or a later one, where one is wanted.
 pub(crate) fn is_from(first: Option<u64>, day: Option<u64>) -> bool
     ensures { result ≡ is_from first day }
 {
-    let Some(first) = first else {
-        return true;
-    };
-    match day {
-        Some(day) => first <= day,
-        None => false,
-    }
+    first.is_none_or(|first| day.is_some_and(|day| first <= day))
 }
 
 /// Whether a day is the last that is wanted or an earlier one, where one is wanted.
 pub(crate) fn is_to(last: Option<u64>, day: Option<u64>) -> bool
     ensures { result ≡ is_to last day }
 {
-    let Some(last) = last else {
-        return true;
-    };
-    match day {
-        Some(day) => day <= last,
-        None => false,
-    }
+    last.is_none_or(|last| day.is_some_and(|day| day <= last))
 }

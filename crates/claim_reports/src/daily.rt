@@ -153,23 +153,18 @@ impl DailyRemittance {
     ) -> Result<Vec<DailyRuling>, AllocError>
         ensures { IfOk result (λ kept. kept.items ≡ within self.now rulings.now) }
     {
-        let mut kept = Vec::new(alloc);
-        for ruling in rulings {
-            if self.is_within(ruling) {
-                kept.push(*ruling)?;
-            }
-        }
-        Ok(kept)
+        rulings
+            .iter()
+            .filter(|ruling| self.is_within(*ruling))
+            .copied()
+            .collect(alloc)
     }
 
     /// Whether a ruling is of an earlier day.
     fn is_before(&self, ruling: &DailyRuling) -> bool
         ensures { result ≡ is_before self.now ruling.now }
     {
-        match self.from {
-            Some(first) => ruling.ruled_on < first,
-            None => false,
-        }
+        self.from.is_some_and(|first| ruling.ruled_on < first)
     }
 
     /// Whether a ruling is of its days.

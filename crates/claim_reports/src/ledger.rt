@@ -210,10 +210,7 @@ impl Ledger {
     fn cents_at(&self, auth: u64) -> u64
         ensures { result ≡ cents_in (get nat_cmp self.now.payments auth) }
     {
-        match self.payments.get(&auth) {
-            Some(held) => held.cents,
-            None => 0,
-        }
+        self.payments.get(&auth).map_or(0, |held| held.cents)
     }
 
     /// What the payment of an authorization comes to, where it stands.

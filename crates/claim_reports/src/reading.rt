@@ -100,11 +100,8 @@ pub(crate) fn rows_of<C: Columns>(
 fn add<T: Drop>(list: &mut Vec<T>, one: Option<T>) -> Result<(), AllocError>
     ensures { OnOk result (list.new.items ≡ list.old.items ++ given one) }
 {
-    match one {
-        Some(one) => {
-            list.push(one)?;
-            Ok(())
-        }
-        None => Ok(()),
+    if let Some(one) = one {
+        list.push(one)?;
     }
+    Ok(())
 }

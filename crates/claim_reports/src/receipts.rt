@@ -1,13 +1,13 @@
 //! What hosts told callers, beside the tables of a run.
 
-ghost use Rattle.std.specs.Prelude.{◌≡◌, ◌++◌, ℕ, option_map, IfErr, IfOk, OnOk};
+ghost use Rattle.std.specs.Prelude.{◌≡◌, map, option_map, IfOk, OnOk};
 ghost use Rattle.std.specs.Ordering.{nat_cmp};
-ghost use Rattle.std.specs.BTreeMap.{get};
+ghost use Rattle.std.specs.BTreeMap.{IsFromIterResult, get};
 ghost use Rattle.table_text.specs.Adding.{Adds, AddsRow};
 ghost use Rattle.table_text.specs.declared.layout.Style.TheVariants.{Csv};
-ghost use Rattle.claim_reports.specs.declared.fault.ReportFault.TheVariants.{OutOfMemory};
 ghost use Rattle.claim_reports.specs.Causes.{RefusesFor};
-ghost use Rattle.claim_reports.specs.Received.{received_cause, sent_under, is_answer, receipt_finding, finding_row, row_if, receipt_rows, is_nothing_found, IsReceived};
+ghost use Rattle.claim_reports.specs.Replies.{Reply};
+ghost use Rattle.claim_reports.specs.Received.{received_cause, is_answer, receipt_finding, finding_row, row_if, receipt_rows, is_nothing_found, IsReceived};
 
 use crate::beside::{Entry, entries_by_number};
 use crate::fault::ReportFault;
@@ -51,15 +51,12 @@ pub fn receipts_beside(
 }
 
 /// Answers by the numbers of their entries.
-fn sent_by_number(alloc: Global, sent: Vec<Reply>) -> Result<BTreeMap<u64, Reply>, ReportFault>
-    ensures under { IfOk result (λ by. (number : ℕ) → get nat_cmp by number ≡ sent_under number sent.items) }
-    ensures memory { IfErr result (λ e. e ≡ OutOfMemory) }
+fn sent_by_number(alloc: Global, sent: Vec<Reply>) -> Result<BTreeMap<u64, Reply>, AllocError>
+    ensures { IfOk result (IsFromIterResult nat_cmp (map (λ (r : Reply). (r.number, r)) sent.items)) }
 {
-    let mut by = BTreeMap::new(alloc);
-    for reply in sent {
-        by.insert(reply.number(), reply)?;
-    }
-    Ok(by)
+    sent.into_iter()
+        .map(|reply| (reply.number(), reply))
+        .collect(alloc)
 }
 
 /// Appends a row for each receipt of which something is found.
@@ -104,12 +101,8 @@ fn is_nothing_found(
 ) -> bool
     ensures { result ≡ is_nothing_found (get nat_cmp held.now) (get nat_cmp came.now) told.now }
 {
-    for receipt in told {
-        if finding(held, came, receipt).is_some() {
-            return false;
-        }
-    }
-    true
+    told.iter()
+        .all(|receipt| finding(held, came, receipt).is_none())
 }
 
 /// What is found of a receipt. An answer of no bytes was not told.
@@ -140,8 +133,5 @@ fn finding(
 fn is_answer(sent: Option<&Reply>, told: &[u8]) -> bool
     ensures { result ≡ is_answer (option_map (λ reply. reply.now) sent.entry) told.now }
 {
-    match sent {
-        Some(reply) => reply.bytes() == told,
-        None => false,
-    }
+    sent.is_some_and(|reply| reply.bytes() == told)
 }

@@ -74,8 +74,5 @@ pub fn report_on(alloc: Global, tables: &[Vec<u8>], report: Report) -> Result<To
 fn table_at(tables: &[Vec<u8>], place: usize) -> &[u8]
     ensures { result.now ≡ table_at (tables_of tables.now) place }
 {
-    match tables.get(place) {
-        Some(table) => table.as_slice(),
-        None => b"",
-    }
+    tables.get(place).map_or(b"", |table| table.as_slice())
 }

@@ -1,15 +1,14 @@
 //! When a row of a payer's book was ruled, by the requests that payers took.
 
-ghost use Rattle.std.specs.Prelude.{◌≡◌, cond, find, map, option_map, None, Some, IfErr, IfOk, OnOk};
-ghost use Rattle.std.specs.BTreeMap.{get};
-ghost use Rattle.std.specs.Option.{option_flatten, option_or};
+ghost use Rattle.std.specs.Prelude.{◌≡◌, map, reverse, IfErr, IfOk};
+ghost use Rattle.std.specs.BTreeMap.{IsFromIterResult, get};
+ghost use Rattle.std.specs.Option.{option_flatten};
 ghost use Rattle.claim_reports.specs.declared.fault.ReportFault.TheVariants.{OutOfMemory};
-ghost use Rattle.claim_reports.specs.declared.ruled.Request.{Request};
 ghost use Rattle.claim_reports.specs.declared.ruled.Taken.{Taken};
-ghost use Rattle.claim_reports.specs.Ruled.{request_cmp, is_of, ruled_at};
+ghost use Rattle.claim_reports.specs.Ruled.{request_cmp, ruled_at};
 
 use crate::fault::ReportFault;
-use std::alloc::Global;
+use std::alloc::{AllocError, Global};
 use std::collections::BTreeMap;
 
 /// A request of a pharmacy to a payer.
@@ -36,6 +35,7 @@ pub struct Taken {
 ///
 /// # Errors
 /// Want of memory.
+#[tactic(auto, using(crate::proofs::Firsts::times_are))]
 pub fn ruled_times(
     alloc: Global,
     taken: &[Taken],
@@ -47,48 +47,29 @@ pub fn ruled_times(
     ensures memory { IfErr result (λ e. e ≡ OutOfMemory) }
 {
     let first = first_times(alloc, taken)?;
-    let mut times = Vec::new(alloc);
-    for request in requests {
-        times.push(time_of(&first, request))?;
-    }
-    Ok(times)
+    Ok(times_of(alloc, &first, requests)?)
+}
+
+/// The times that a map has of requests.
+fn times_of(
+    alloc: Global,
+    first: &BTreeMap<Request, Option<u64>>,
+    requests: &[Request],
+) -> Result<Vec<Option<u64>>, AllocError>
+    ensures { IfOk result (λ times. times.items ≡ map (λ r. option_flatten (get request_cmp first.now r)) requests.now) }
+{
+    requests
+        .iter()
+        .map(|request| first.get(request).copied().flatten())
+        .collect(alloc)
 }
 
 /// The time of the first packet of each request.
-fn first_times(
-    alloc: Global,
-    taken: &[Taken],
-) -> Result<BTreeMap<Request, Option<u64>>, ReportFault>
-    ensures first { IfOk result (λ first. (request : Request)
-        → get request_cmp first request ≡ option_map (λ (t : Taken). t.time) (find (is_of request) taken.now)) }
-    ensures memory { IfErr result (λ e. e ≡ OutOfMemory) }
+fn first_times(alloc: Global, taken: &[Taken]) -> Result<BTreeMap<Request, Option<u64>>, AllocError>
+    ensures { IfOk result (IsFromIterResult request_cmp (map (λ (t : Taken). (t.request, t.time)) (reverse taken.now))) }
 {
-    let mut first = BTreeMap::new(alloc);
-    for packet in taken {
-        add(&mut first, packet)?;
-    }
-    Ok(first)
-}
-
-/// Adds the time of a packet, unless there is one of its request.
-fn add(first: &mut BTreeMap<Request, Option<u64>>, packet: &Taken) -> Result<(), ReportFault>
-    ensures adds { OnOk result ((request : Request) → get request_cmp first.new request
-        ≡ option_or (get request_cmp first.old request) (cond (is_of request packet.now) (Some packet.now.time) None)) }
-    ensures memory { IfErr result (λ e. e ≡ OutOfMemory) }
-{
-    if first.contains_key(&packet.request) {
-        return Ok(());
-    }
-    first.insert(packet.request, packet.time)?;
-    Ok(())
-}
-
-/// The time that a map has of a request.
-fn time_of(first: &BTreeMap<Request, Option<u64>>, request: &Request) -> Option<u64>
-    ensures { result ≡ option_flatten (get request_cmp first.now request.now) }
-{
-    match first.get(request) {
-        Some(time) => *time,
-        None => None,
-    }
+    let last_first = taken.iter().rev();
+    last_first
+        .map(|packet| (packet.request, packet.time))
+        .collect(alloc)
 }

@@ -68,10 +68,7 @@ pub fn ruled_table(alloc: Global, rows: &[u8], calls: &[u8]) -> Result<Vec<u8>, 
 fn payer_named(node: &[u8]) -> Option<u64>
     ensures { result ≡ payer_named node.now }
 {
-    match node.strip_prefix(b"pr") {
-        Some(digits) => read_decimal(digits, 18),
-        None => None,
-    }
+    read_decimal(node.strip_prefix(b"pr")?, 18)
 }
 
 impl Named {
@@ -238,10 +235,7 @@ fn put_rows(
 fn time_at(times: &[Option<u64>], place: usize) -> Option<u64>
     ensures { result ≡ get_or times.now place None }
 {
-    match times.get(place) {
-        Some(time) => *time,
-        None => None,
-    }
+    times.get(place).copied().unwrap_or(None)
 }
 
 /// Appends the line of a row that was ruled at this time.

@@ -190,13 +190,10 @@ fn put_line<'a>(
     ensures placed { OnOk result (AddsPlaced lines.old.items lines.new.items
         (placed row.entry.table row.entry.number ruling (fields_of row.entry.record.now) moves)) }
 {
-    match moves {
-        Some(moves) => {
-            lines.push(Line { row, ruling, moves })?;
-            Ok(())
-        }
-        None => Ok(()),
+    if let Some(moves) = moves {
+        lines.push(Line { row, ruling, moves })?;
     }
+    Ok(())
 }
 
 impl RulingColumns {
@@ -251,10 +248,7 @@ impl RulingColumns {
         if word == b"reversed".as_slice() {
             return self.reversal_of(row);
         }
-        if word == b"duplicate".as_slice() {
-            return Ok(None);
-        }
-        if word == b"rejected".as_slice() {
+        if word == b"duplicate".as_slice() || word == b"rejected".as_slice() {
             return Ok(None);
         }
         Err(row.bad(self.ruling))

@@ -173,12 +173,7 @@ impl By {
     fn is_all(self) -> bool
         ensures { result ≡ is_all self }
     {
-        match self {
-            By::All => true,
-            By::Payer => false,
-            By::Pharmacy => false,
-            By::Day => false,
-        }
+        matches!(self, By::All)
     }
 
     /// The name of its column, where it has one.

@@ -81,15 +81,12 @@ fn add(
 fn sums_at(totals: &BTreeMap<Option<u64>, Sums>, key: Option<u64>) -> Sums
     ensures { result ≡ sums_or_none (get key_cmp totals.now key) }
 {
-    match totals.get(&key) {
-        Some(sums) => *sums,
-        None => Sums {
-            count: 0,
-            cents: 0,
-            reversed_count: 0,
-            reversed_cents: 0,
-        },
-    }
+    totals.get(&key).copied().unwrap_or(Sums {
+        count: 0,
+        cents: 0,
+        reversed_count: 0,
+        reversed_cents: 0,
+    })
 }
 
 impl By {

@@ -46,6 +46,7 @@ fn wider_fields<'a>(
 }
 
 /// The field at a place, which the record has.
+#[tactic(auto, using(crate::proofs::Lines::there, crate::proofs::Lines::not_there))]
 pub(crate) fn field_at(row: &ByteRecord, place: usize) -> &[u8]
     ensures { result.now ≡ get_or (fields_of row.now) place [] }
 {

@@ -1,27 +1,13 @@
-use Rattle.std.proofs.Common.{List, ℕ, [], ◌∙◌, ap, map, refl}
-use Rattle.std.specs.Prelude.{unwrap_or}
-use Rattle.std.proofs.lemmas.Result.{IfOk-weaker}
+use Rattle.std.proofs.Common.{ap, map}
 use Rattle.csv.specs.Records.{fields_of}
 use Rattle.claim_reports.specs.Causes.{records_of, table_cause}
-use Rattle.claim_reports.specs.Tables.{given_by, rows_of}
+use Rattle.claim_reports.specs.Tables.{rows_of}
 use Rattle.claim_reports.proofs.Telling.{passed, refuses_same, table_is, tells_first}
 use Rattle.claim_reports.proofs.reading.rows_in.Goals as goal
 
 pub returns-in_err-table-clause-refuses : goal.returns-in_err-table-clause-refuses
 unfolding table_cause
 returns-in_err-table-clause-refuses g c = passed c.from_residual.result _ _ c.from_residual.ensures.1 (tells_first _ _ _ c.in_err-table.ensures.refuses)
-
-pub returns-clause-read : goal.returns-clause-read
-returns-clause-read g c =
-    IfOk-weaker c.rows_of.result _ _ (λ rows is. (map fields_of c.in_ok-table.table.records.items, g.C.Columns.columns_in c.args.whose.now (map fields_of c.in_ok-table.table.records.items), c.in_ok-table.ensures.read, refl, is))
-    c.rows_of.ensures.read
-
-pub returns-clause-all : goal.returns-clause-all
-returns-clause-all g c =
-    let columns = g.C.Columns.columns_in c.args.whose.now in
-    IfOk-weaker c.rows_of.result _ _
-    (λ rows is. ap (λ (records : List (List (List ℕ))). unwrap_or (given_by (g.C.Columns.row_in (columns records) c.args.whose.now) (rows_of records)) []) c.in_ok-table.ensures.all ∙ ap (λ o. unwrap_or o []) is)
-    c.rows_of.ensures.read
 
 pub returns-clause-refuses : goal.returns-clause-refuses
 returns-clause-refuses g c =

@@ -1,10 +1,9 @@
-use Rattle.std.proofs.Common.{◌≡◌, ◌+◌, [], ap, arith, length}
-use Rattle.std.proofs.Math.ListN.{drop_of_length-le}
+use Rattle.std.proofs.Common.{◌≡◌, ◌+◌, [], arith, length}
 use Rattle.std.specs.Prelude.{codes}
 use Rattle.table_text.specs.Rows.{head_text}
 use Rattle.claim_reports.specs.Statement.{line_names}
 use Rattle.claim_reports.specs.RulingsSeen.{line_seen, lines_seen}
-use Rattle.claim_reports.proofs.Remittances.{lines_none, lines_next, lines_end}
+use Rattle.claim_reports.proofs.Remittances.{lines_none, lines_next}
 use Rattle.claim_reports.proofs.Telling.{neither, passed, tells_then}
 use Rattle.claim_reports.proofs.WrongLines.{lines_begin, lines_fine, lines_good, move_wrong, row_wrong}
 use Rattle.claim_reports.proofs.remitting.lines_text.Goals as goal
@@ -55,11 +54,6 @@ returns-in_err-put_line-clause-refuses c =
     (tells_then _ _ _ (c.in_ok-take_all.ensures.refuses [] c.new-ledger.ensures (omega arith))
     (row_wrong c.args.columns.now c.args.before.now (length c.args.before.now + c.loop-line.line-index + 1) c.loop-line.line-index c.args.lines.now _ _ _ lt
     (rw (c.line-item.is, number) at (c.in_ok-moved.ensures.refuses _ c.loop-line.invariant.lines.is (omega arith))) (rw c.line-item.is at c.in_err-put_line.ensures.refuses) c.loop-line.invariant.good))
-
-pub returns-clause-made : goal.returns-clause-made
-returns-clause-made c =
-    lines_end c.args.columns.now c.args.asked.now c.args.before.now _ (lines_seen c.args.lines.now) _ (head_text (line_names (codes "ruling"))) c.loop-line.out.items c.loop-line.ledger
-    (ap lines_seen (drop_of_length-le c.args.lines.now c.loop-line-test.false)) c.loop-line.invariant.lines
 
 pub returns-clause-refuses : goal.returns-clause-refuses
 returns-clause-refuses c =

@@ -1,18 +1,9 @@
-use Rattle.std.proofs.Common.{ℕ, map}
-use Rattle.std.specs.Global.{Vec}
+use Rattle.std.proofs.Common.{map}
 use Rattle.csv.specs.Records.{fields_of}
-use Rattle.claim_reports.specs.RulingsSeen.{lines_seen}
 use Rattle.claim_reports.proofs.Remittances.{remitted_is}
 use Rattle.claim_reports.proofs.Telling.{refuses_same}
 use Rattle.claim_reports.proofs.WrongRemittances as wrong
 use Rattle.claim_reports.proofs.remitting.remittance_lines.Goals as goal
-
-pub returns-clause-made : goal.returns-clause-made
-returns-clause-made c =
-    remitted_is (λ (text : Vec ℕ). text.items) c.lines_text.result c.args.rows.now c.args.asked.now (map fields_of c.in_ok-table.table.records.items) c.in_ok-columns.columns (lines_seen c.in_ok-rulings.rulings.lines.items) c.in_ok-rulings.rulings.up_to
-    c.in_ok-before.before.items (lines_seen c.in_ok-lines.lines.items) c.in_ok-table.ensures.read c.in_ok-columns.ensures.are c.in_ok-rulings.ensures.read
-    (rw c.as_slice.ensures.value at c.in_ok-before.ensures) (rw c.as_slice-2.ensures.value at c.in_ok-lines.ensures.read)
-    (rw (c.as_slice-3.ensures.value, c.as_slice-4.ensures.value) at c.lines_text.ensures.made)
 
 pub returns-clause-refuses : goal.returns-clause-refuses
 returns-clause-refuses c =

@@ -1,10 +1,6 @@
-use Rattle.std.proofs.Common.{map}
 use Rattle.csv.specs.Records.{Row, fields_of}
-use Rattle.claim_reports.proofs.Lines.{nothing_yet, lines_more, lines_end}
+use Rattle.claim_reports.proofs.Lines.{lines_more, lines_end}
 use Rattle.claim_reports.proofs.ruled_rows.put_rows.Goals as goal
-
-pub loop-place-init : goal.loop-place-init
-loop-place-init c = nothing_yet c.args.out.now.items (map fields_of c.args.rows.now) c.args.times.now
 
 pub loop-place-preserved : goal.loop-place-preserved
 loop-place-preserved c =

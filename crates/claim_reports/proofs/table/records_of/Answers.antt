@@ -47,16 +47,6 @@ loop-record-preserved c =
           (expects_more c.loop-record.record-iterator.rdr.expected c.next.new.self.rdr.expected (map fields_of c.loop-record.records.items) (fields_of c.in-Ok.record) so_far.lengths length.0 length.1);
     }
 
-pub returns-clause-read : goal.returns-clause-read
-returns-clause-read c =
-    let so_far = c.loop-record.invariant in
-    let step = rw c.in-None.is at ((c.next.ensures.steps so_far.goes_on so_far.plain).0 so_far.ready) in (
-      c.loop-record.record-iterator.rdr.state,
-      so_far.unread,
-      so_far.reached,
-      rows-end known c.loop-record.record-iterator.rdr c.next.new.self.rdr [] default_config so_far.unread so_far.config so_far.source step,
-    )
-
 pub returns-clause-all : goal.returns-clause-all
 returns-clause-all c =
     let so_far = c.loop-record.invariant in

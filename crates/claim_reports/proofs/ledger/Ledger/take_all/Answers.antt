@@ -1,18 +1,9 @@
-use Rattle.std.proofs.Common.{◌≡◌, ◌≤◌, ◌+◌, ◌^◌, append-nil, arith, refl, sym}
+use Rattle.std.proofs.Common.{◌≡◌, ◌≤◌, ◌+◌, ◌^◌, arith, refl}
 use Rattle.claim_reports.specs.Causes.{TooLarge}
-use Rattle.claim_reports.specs.Ledger.{moves_cause}
-use Rattle.claim_reports.proofs.Ledgers.{takes_none, takes_more, takes_done}
+use Rattle.claim_reports.proofs.Ledgers.{takes_more}
 use Rattle.claim_reports.proofs.Telling.{passed, tells_this}
 use Rattle.claim_reports.proofs.WrongMoves.{back_here, good_end, good_more, paid_here, wrong_here}
 use Rattle.claim_reports.proofs.ledger.Ledger.take_all.Goals as goal
-
-pub loop-place-init : goal.loop-place-init
-loop-place-init c = record {
-  takes = λ before is. takes_none before c.args.moves.now c.args.self.now is;
-  good = λ before is fit.
-      let number : c.args.passed + 1 ≡ c.args.passed + 0 + 1 = omega arith in
-      λ i. moves_cause (sym (append-nil before) i) (number i) 0 0 c.args.moves.now;
-}
 
 pub loop-place-preserved : goal.loop-place-preserved
 loop-place-preserved c =
@@ -67,9 +58,6 @@ returns-in_default-checked_add-clause-refuses c = λ before is fit.
     tells_this _ TooLarge _ refl
     (back_here _ before c.args.moves.now c.loop-place.place (c.args.passed + c.loop-place.place + 1) c.loop-place.paid c.loop-place.reversed _ c.loop-place.self c.take.new.self c.in_ok-moved.moved
     lt (c.loop-place.invariant.takes before is).is c.in_ok-moved.ensures.takes (rw number at c.in_ok-moved.ensures.refuses) c.in-Some.ensures.0 large (c.loop-place.invariant.good before is fit))
-
-pub returns-clause-takes : goal.returns-clause-takes
-returns-clause-takes c = λ before is. takes_done before c.args.moves.now c.loop-place.place c.args.self.now c.loop-place.self _ c.loop-place-test.false (c.loop-place.invariant.takes before is)
 
 pub returns-clause-refuses : goal.returns-clause-refuses
 returns-clause-refuses c = λ before is fit.
