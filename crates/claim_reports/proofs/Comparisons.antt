@@ -12,6 +12,7 @@ use Rattle.claim_reports.specs.declared.beside.Entry.{Entry}
 use Rattle.claim_reports.specs.declared.beside.Finding.{Finding}
 use Rattle.claim_reports.specs.Comparing.{last_with, told, counted_finding, made_finding, findings, Findings}
 use Rattle.claim_reports.proofs.Adding.{at_nat}
+use Rattle.claim_reports.proofs.Snocs.{or_none}
 
 -- a map of elements by their numbers has the last one of each number
 entered : {A : Type 0} (o : Option A) (b : Bool) (x : A) (p : Option A) → option_or o (cond b (Some x) p) ≡ option_or (option_or o (cond b (Some x) None)) p
@@ -27,12 +28,8 @@ last_among number n (x ∷ more) f =
     ∙ ap (λ (b : Bool). option_or (last_with number n more) (cond b (Some x) (f n))) (at_nat (number x) n)
     ∙ entered (last_with number n more) (number x == n) x (f n)
 
-or_nothing : {A : Type 0} (o : Option A) → option_or o None ≡ o
-or_nothing None = refl
-or_nothing (Some x) = refl
-
 pub last_is : {A : Type 0} (number : A → ℕ) (xs : List A) (by : BTreeMap ℕ A) → IsFromIterResult nat_cmp (map (λ x. (number x, x)) xs) by → (n : ℕ) → get nat_cmp by n ≡ last_with number n xs
-last_is number xs by made n = made.0 n ∙ last_among number n xs (λ _. None) ∙ or_nothing (last_with number n xs)
+last_is number xs by made n = made.0 n ∙ last_among number n xs (λ _. None) ∙ or_none (last_with number n xs)
 
 -- what is found of elements
 picked : {A : Type 0} (find : A → Option Finding) (xs : List A) → filter_map find xs ≡ flat_map (λ x. told (find x)) xs

@@ -1,5 +1,5 @@
 -- The rulings of some books in a table, of those of more books.
-use Rattle.std.proofs.Common.{◌≡◌, ℕ, Bool, true, false, cond, List, [], ◌∷◌, ◌++◌, refl, sym, ap, ◌∙◌, inl, inr}
+use Rattle.std.proofs.Common.{◌≡◌, ℕ, Bool, true, false, cond, List, [], ◌∷◌, ◌++◌, refl, sym, ap, ◌∙◌, inl, inr, true≢false}
 use Rattle.std.specs.Prelude.{Option, Some, None, filter, if◌then◌else◌, option_map}
 use Rattle.std.specs.Option.{option_and_then}
 use Rattle.std.proofs.lemmas.Bool.{cases_Bool}
@@ -14,6 +14,7 @@ use Rattle.claim_reports.specs.Rulings.{move_to}
 use Rattle.claim_reports.specs.Shelves.{has}
 use Rattle.claim_reports.specs.Statement.{numbers_of}
 use Rattle.claim_reports.specs.Tables.{given, given_by, number_in, ◌>>=◌}
+use Rattle.claim_reports.proofs.Readings.{some_is}
 
 -- what a row gives is of the book that the row says
 abbrev IsBook : ℕ → Option DailyRuling → Type 0
@@ -26,10 +27,7 @@ split_then None f y e = absurd (cc e)
 split_then (Some x) f y e = (x, refl, e)
 
 same_payer : (x y : DailyRuling) → let o : Option DailyRuling = Some x in o ≡ Some y → y.payer ≡ x.payer
-same_payer x y e = ap (λ (r : DailyRuling). r.payer) (sym (some_same x y e))
-  where
-    some_same : (x y : DailyRuling) → let o : Option DailyRuling = Some x in o ≡ Some y → x ≡ y
-    some_same x y e = cc e
+same_payer x y e = ap (λ (r : DailyRuling). r.payer) (sym (some_is x y e))
 
 values_book : (c : DailyColumns) (payer : ℕ) (m : Move) (row : List (List ℕ)) (r : DailyRuling) → values_of c payer m row ≡ Some r → r.payer ≡ payer
 values_book c payer m row r e =
@@ -67,11 +65,7 @@ at_payer : (c : DailyColumns) (asked : DailyRemittance) (all these : List Span) 
     → (if b then of_book_in c asked payer row else Some None) ≡ Some one → (if t then of_book_in c asked payer row else Some None) ≡ Some (kept these one)
 at_payer c asked all these payer row one true true within of too e = e ∙ ap Some (sym (by_book these payer true too one (book_of c asked payer row one e)))
 at_payer c asked all these payer row one true false within of too e = ap Some (sym (by_book these payer false too one (book_of c asked payer row one e)))
-at_payer c asked all these payer row one false true within of too e = absurd (no_both (has all payer) (within too) of)
-  where
-    no_both : (x : Bool) → x ≡ true → x ≡ false → ⊥
-    no_both true e f = cc f
-    no_both false e f = cc e
+at_payer c asked all these payer row one false true within of too e = absurd (true≢false (sym (within too) ∙ of))
 at_payer c asked all these payer row one false false within of too e = ap (λ (o : Option DailyRuling). Some (kept these o)) (none_is one e)
   where
     none_is : (one : Option DailyRuling) → let o : Option (Option DailyRuling) = Some None in o ≡ Some one → None ≡ one

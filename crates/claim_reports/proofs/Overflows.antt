@@ -5,9 +5,8 @@ use Rattle.std.specs.Prelude.{◌||◌, Option, Some, None, filter, nat_eq, nat_
 use Rattle.std.specs.Option.{option_eq}
 use Rattle.std.specs.BTreeMap.{BTreeMap, get}
 use Rattle.std.specs.List.{list_any, sum_by}
-use Rattle.std.proofs.Math.ListN.{drop_of_length-le}
 use Rattle.std.proofs.lemmas.Bool.{cases_Bool, eq-eqb, leb-true, le-leb}
-use Rattle.std.proofs.lemmas.List.{take_more}
+use Rattle.std.proofs.lemmas.List.{take_all, take_more}
 use Rattle.std.proofs.lemmas.List.Elements.{filter-append}
 use Rattle.std.proofs.lemmas.List.Folds.{list_any_at}
 use Rattle.std.proofs.lemmas.List.Sums.{sum_by-append}
@@ -118,6 +117,5 @@ none_any f (p ∷ more) none = rw (none p) (none_any f more none)
 pub all_fit : (by : By) (paid : List Paid) (i : ℕ) → length paid ≤ i → Fit by (take i paid) → sums_cause by paid ≡ None
 unfolding sums_cause
 all_fit by paid i le fits =
-    let all : take i paid ≡ paid = sym (append-nil (take i paid)) ∙ ap (λ (xs : List Paid). take i paid ++ xs) (sym (drop_of_length-le paid le)) ∙ take-append-drop i paid in
-    let whole : Fit by paid = subst (λ (xs : List Paid). Fit by xs) all fits in
+    let whole : Fit by paid = subst (λ (xs : List Paid). Fit by xs) (take_all i paid le) fits in
     rw (none_any (λ (p : Paid). is_too_large (sums_of (filter (is_at_key by (key_of by p)) paid))) paid (λ p. whole (key_of by p))) refl

@@ -1,5 +1,5 @@
 -- Figures of a remittance over the rulings of some books, where each authorization is of the book that ruled.
-use Rattle.std.proofs.Common.{◌≡◌, ℕ, ◌+◌, ◌==◌, Bool, true, false, cond, List, [], ◌∷◌, ◌++◌, map, refl, sym, ap, subst, ◌∙◌, inl, inr, arith}
+use Rattle.std.proofs.Common.{◌≡◌, ℕ, ◌+◌, ◌==◌, Bool, true, false, cond, List, [], ◌∷◌, ◌++◌, map, refl, sym, ap, subst, ◌∙◌, inl, inr, arith, true≢false}
 use Rattle.std.specs.Prelude.{◌&&◌, ◌||◌, Option, Some, None, filter, option_map, unwrap_or}
 use Rattle.std.specs.List.{list_any, sum_by}
 use Rattle.std.proofs.lemmas.Bool.{cases_Bool, eqb-true}
@@ -28,13 +28,9 @@ own h xs = filter (is_own h) xs
 -- one of other books moves no authorization of these
 not_this : (owner : ℕ → ℕ) (h : ℕ → Bool) (a b payer : ℕ) → h (owner a) ≡ true → owner b ≡ payer → h payer ≡ false → (b == a) ≡ false
 not_this owner h a b payer is of other = elim (cases_Bool (b == a)) [
-  | inl same ↦ absurd (no_both (h (owner a)) is (ap (λ (n : ℕ). h (owner n)) (sym (eqb-true b a same)) ∙ ap h of ∙ other))
+  | inl same ↦ absurd (true≢false (sym is ∙ ap (λ (n : ℕ). h (owner n)) (sym (eqb-true b a same)) ∙ ap h of ∙ other))
   | inr not ↦ not
 ]
-  where
-    no_both : (t : Bool) → t ≡ true → t ≡ false → ⊥
-    no_both true e f = cc f
-    no_both false e f = cc e
 
 other_reverses : (owner : ℕ → ℕ) (h : ℕ → Bool) (a payer : ℕ) (m : Move) → h (owner a) ≡ true → owner (auth_of m) ≡ payer → h payer ≡ false → reverses a m ≡ false
 other_reverses owner h a payer (Paid b cents) is of other = refl

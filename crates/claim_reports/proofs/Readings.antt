@@ -4,7 +4,8 @@ use Rattle.std.specs.Prelude.{Option, Some, None, if◌then◌else◌, IfSome, u
 use Rattle.std.specs.List.{list_all}
 use Rattle.csv.specs.Machine.{Read, next_record, step, is_end, ends_at_end, fields_after, field_after}
 use Rattle.std.proofs.Common.{length-append, eq-eqb}
-use Rattle.std.proofs.lemmas.Bool.{ne_eqb}
+use Rattle.std.proofs.lemmas.Bool.{and_from, and_left, and_right, ne_eqb}
+use Rattle.std.proofs.lemmas.List.Folds.{list_all-append}
 use Rattle.csv.specs.Reading.{Reached, records, records_from}
 use Rattle.csv.proofs.ReadFacts.{reached-more}
 use Rattle.claim_reports.specs.Causes.{NotCsv, uneven}
@@ -12,7 +13,7 @@ use Rattle.csv.specs.declared.parser.Config.{Config}
 use Rattle.csv.specs.declared.parser.State.{State}
 use Rattle.csv.specs.declared.parser.State.TheVariants as state
 
-some_is : {A : Type 0} (x y : A) → ◌≡◌ {A = Option A} (Some x) (Some y) → x ≡ y
+pub some_is : {A : Type 0} (x y : A) → ◌≡◌ {A = Option A} (Some x) (Some y) → x ≡ y
 some_is x y e = ap (λ o. unwrap_or o x) e
 
 shorter_if : (b : Bool) (p r : Read) (o : Option Read) (n : ℕ) → (if b then Some p else o) ≡ Some r → length p.2 ≤ n → (o ≡ Some r → length r.2 ≤ n) → length r.2 ≤ n
@@ -95,29 +96,13 @@ unfoldable pub Expects : Option ℕ → List (List (List ℕ)) → Type 0
 Expects o [] = o ≡ None
 Expects o (names ∷ rows) = (o ≡ Some (length names)) × (list_all (λ (row : List (List ℕ)). length row == length names) rows ≡ true)
 
-both : (a b : Bool) → a ≡ true → b ≡ true → (a && b) ≡ true
-both true b p q = q
-both false b p q = absurd (cc p)
-
-and_false : (a : Bool) → (a && false) ≡ false
-and_false true = refl
-and_false false = refl
-
 all_more : (n : ℕ) (rows : List (List (List ℕ))) (row : List (List ℕ)) → list_all (λ (r : List (List ℕ)). length r == n) rows ≡ true → length row ≡ n
     → list_all (λ (r : List (List ℕ)). length r == n) (rows ++ row ∷ []) ≡ true
-all_more n [] row all e = both (length row == n) true (eq-eqb (length row) n e) refl
-all_more n (r ∷ rs) row all e =
-    let split = two (length r == n) (list_all (λ (r : List (List ℕ)). length r == n) rs) all in
-    both (length r == n) _ split.0 (all_more n rs row split.1 e)
-  where
-    two : (a b : Bool) → (a && b) ≡ true → (a ≡ true) × (b ≡ true)
-    two true b h = (refl, h)
-    two false b h = absurd (cc h)
+all_more n rows row all e = list_all-append (λ (r : List (List ℕ)). length r == n) rows (row ∷ []) ∙ and_from _ _ all (and_from _ _ (eq-eqb (length row) n e) refl)
 
 not_all : (n : ℕ) (rows : List (List (List ℕ))) (row : List (List ℕ)) (more : List (List (List ℕ))) → (length row == n) ≡ false
     → list_all (λ (r : List (List ℕ)). length r == n) (rows ++ row ∷ more) ≡ false
-not_all n [] row more e = rw e refl
-not_all n (r ∷ rs) row more e = rw (not_all n rs row more e) (and_false (length r == n))
+not_all n rows row more e = list_all-append (λ (r : List (List ℕ)). length r == n) rows (row ∷ more) ∙ and_right _ _ (and_left (length row == n) _ e)
 
 pub expects_more : (old new : Option ℕ) (records : List (List (List ℕ))) (row : List (List ℕ)) → Expects old records → IfSome old (λ e. new ≡ Some e) → new ≡ Some (length row) → Expects new (records ++ row ∷ [])
 unfolding Expects

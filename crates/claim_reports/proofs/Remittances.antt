@@ -15,7 +15,7 @@ use Rattle.claim_reports.specs.Ledger.{IsLedgerOf, TakesAll, back_cents, taken_b
 use Rattle.claim_reports.specs.Remitted.{AddsLine, AddsLines, IsRemitted, IsSummed, line_text, lines_text, title_of}
 use Rattle.claim_reports.specs.Statement.{IsSums, Title, line_names}
 use Rattle.claim_reports.specs.Tables.{AreRecordsOf, given, given_by, rows_of, number_in, ◌>>=◌}
-use Rattle.claim_reports.proofs.Rowwise.{behind, by_one}
+use Rattle.claim_reports.proofs.Rowwise.{behind, behind_nothing, by_one}
 
 -- a row more
 pub reads_on : {B : Type 0} (c : RulingColumns) (asked : Remittance) (fields_of : B → List (List ℕ)) (records : List B) (i : ℕ) (d : B) (r next : Read) (all : Option Read) → i < length records
@@ -182,17 +182,13 @@ pub record LinesSoFar (c : RulingColumns) (asked : Remittance) (before passed : 
   pub told : out ≡ first ++ text
   pub lines : lines_text c asked before rulings ≡ behind text (lines_text c asked (before ++ passed) left)
 
-behind_none : (o : Option (List ℕ)) → o ≡ behind [] o
-behind_none None = refl
-behind_none (Some text) = refl
-
 pub lines_none : (c : RulingColumns) (asked : Remittance) (before : List Move) (rulings : List Ruling) (first : List ℕ) (ledger : Ledger) → IsLedgerOf before ledger
     → LinesSoFar c asked before [] rulings rulings first first ledger
 lines_none c asked before rulings first ledger is = record {
   is = subst (λ (ms : List Move). IsLedgerOf ms ledger) (sym (append-nil before)) is;
   text = [];
   told = sym (append-nil first);
-  lines = behind_none (lines_text c asked before rulings) ∙ ap (λ (ms : List Move). behind [] (lines_text c asked ms rulings)) (sym (append-nil before));
+  lines = behind_nothing (lines_text c asked before rulings) ∙ ap (λ (ms : List Move). behind [] (lines_text c asked ms rulings)) (sym (append-nil before));
 }
 
 one_taken_back : (all : List Move) (m : Move) → taken_back all (m ∷ []) ≡ back_cents all m

@@ -8,12 +8,9 @@ use Rattle.claim_reports.specs.Tables.{given, given_by}
 abbrev pub behind : {A : Type 0} → List A → Option (List A) → Option (List A)
 behind xs o = option_map (λ ys. xs ++ ys) o
 
-behind_nothing : {A : Type 0} (o : Option (List A)) → o ≡ behind [] o
+pub behind_nothing : {A : Type 0} (o : Option (List A)) → o ≡ behind [] o
 behind_nothing None = refl
 behind_nothing (Some ys) = refl
-
-pub begins : {A : Type 0} (read : List (List ℕ) → Option (Option A)) (rows : List (List (List ℕ))) → given_by read rows ≡ behind [] (given_by read rows)
-begins read rows = behind_nothing (given_by read rows)
 
 more_behind : {A : Type 0} (xs one : List A) (o : Option (List A)) → behind xs (option_map (λ ys. one ++ ys) o) ≡ behind (xs ++ one) o
 more_behind xs one None = refl

@@ -3,12 +3,13 @@ use Rattle.std.proofs.Common.{◌≡◌, ℕ, ◌+◌, ◌==◌, Bool, true, fal
 use Rattle.std.specs.Prelude.{◌||◌, Option, Some, None}
 use Rattle.std.specs.Option.{option_or}
 use Rattle.std.specs.List.{sum_by}
-use Rattle.std.proofs.lemmas.Bool.{cases_Bool, eqb-true, eqb-false, eq-eqb, ne_eqb}
+use Rattle.std.proofs.lemmas.Bool.{cases_Bool, eqb-true, eqb-false, eq-eqb, ne_eqb, or_right}
 use Rattle.std.proofs.lemmas.List.Folds.{list_any-append}
 use Rattle.std.proofs.lemmas.List.Sums.{sum_by-append}
 use Rattle.claim_reports.specs.declared.ledger.Move.{Move}
 use Rattle.claim_reports.specs.declared.ledger.Move.TheVariants.{Paid, Reversed}
 use Rattle.claim_reports.specs.Ledger.{paid_for, reverses, is_reversed, standing_cents, PaidOnce}
+use Rattle.claim_reports.proofs.Readings.{some_is}
 
 -- what was paid stays so
 pub paid_stays : (q : ℕ) (xs ys : List Move) (c : ℕ) → paid_for q xs ≡ Some c → paid_for q (xs ++ ys) ≡ Some c
@@ -39,7 +40,7 @@ paid_behind_reversal q a [] = refl
 paid_behind_reversal q a (Paid b n ∷ more) = ap (λ (o : Option ℕ). cond (b == q) (Some n) o) (paid_behind_reversal q a more)
 paid_behind_reversal q a (Reversed b ∷ more) = paid_behind_reversal q a more
 
-or_none : (o : Option ℕ) → option_or o None ≡ o
+pub or_none : {A : Type 0} (o : Option A) → option_or o None ≡ o
 or_none None = refl
 or_none (Some c) = refl
 
@@ -67,12 +68,8 @@ reversed_behind q a xs = list_any-append (reverses q) xs (Reversed a ∷ []) ∙
 pub reversed_behind_other : (q a : ℕ) (xs : List Move) → (a == q) ≡ false → is_reversed q (xs ++ Reversed a ∷ []) ≡ is_reversed q xs
 reversed_behind_other q a xs other = reversed_behind q a xs ∙ (ap (λ (b : Bool). is_reversed q xs || b) other ∙ or_false (is_reversed q xs))
 
-or_true : (b : Bool) → (b || true) ≡ true
-or_true true = refl
-or_true false = refl
-
 pub reversed_behind_own : (a : ℕ) (xs : List Move) → is_reversed a (xs ++ Reversed a ∷ []) ≡ true
-reversed_behind_own a xs = reversed_behind a a xs ∙ (ap (λ (b : Bool). is_reversed a xs || b) (eq-eqb a a refl) ∙ or_true (is_reversed a xs))
+reversed_behind_own a xs = reversed_behind a a xs ∙ or_right (is_reversed a xs) (a == a) (eq-eqb a a refl)
 
 -- ---- paid once
 
@@ -120,9 +117,6 @@ standing_apart gone other a (Reversed b ∷ more) alike none =
     let left : sum_by (standing_cents other) (Reversed b ∷ more) ≡ 0 + sum_by (standing_cents other) more = first_of_all (standing_cents other) (Reversed b) more in
     let right : sum_by (standing_cents gone) (Reversed b ∷ more) ≡ 0 + sum_by (standing_cents gone) more = first_of_all (standing_cents gone) (Reversed b) more in
     omega (arith, rest, left, right)
-
-some_is : (n c : ℕ) → Some n ≡ Some c → n ≡ c
-some_is n c e = cc e
 
 -- a payment of these goes
 pub standing_less : (gone other : ℕ → Bool) (a c : ℕ) (xs : List Move) → ((q : ℕ) → (a == q) ≡ false → other q ≡ gone q) → gone a ≡ false → other a ≡ true

@@ -1,10 +1,10 @@
 -- What is wrong with rulings, ruling by ruling.
 use Rattle.std.proofs.Common.{◌≡◌, ◌<◌, ◌≤◌, ℕ, ◌+◌, ◌==◌, ◌^◌, Bool, true, false, cond, List, [], ◌∷◌, ◌++◌, length, get_or, take, drop, refl, sym, ap, ◌∙◌, append_assoc, inl, inr, arith}
-use Rattle.std.specs.Prelude.{Option, Some, None, option_map, if◌then◌else◌, is_none, is_some, nat_le, nat_lt, unwrap_or}
+use Rattle.std.specs.Prelude.{Option, Some, None, option_map, if◌then◌else◌, is_none, is_some, nat_lt, unwrap_or}
 use Rattle.std.specs.Option.{option_or}
 use Rattle.std.specs.List.{sum_by}
 use Rattle.std.proofs.Math.ListN.{drop_of_length-le}
-use Rattle.std.proofs.lemmas.Bool.{cases_Bool, eqb-true, ltb-true, leb-true, le-leb}
+use Rattle.std.proofs.lemmas.Bool.{cases_Bool, eqb-true, ltb-true}
 use Rattle.std.proofs.lemmas.List.{drop_more, take_more}
 use Rattle.std.proofs.lemmas.List.Sums.{sum_by-append}
 use Rattle.claim_reports.specs.declared.fault.ReportFault.{ReportFault}
@@ -13,14 +13,12 @@ use Rattle.claim_reports.specs.declared.ledger.Move.TheVariants.{Paid, Reversed}
 use Rattle.claim_reports.specs.declared.ledger.Held.{Held}
 use Rattle.claim_reports.specs.declared.ledger.Ledger.{Ledger}
 use Rattle.claim_reports.specs.declared.ledger.Moved.{Moved}
-use Rattle.claim_reports.specs.Causes.{Cause, NotStanding, PaidAgain, Tells, TooLarge}
+use Rattle.claim_reports.specs.Causes.{Cause, NotStanding, PaidAgain, Tells}
 use Rattle.claim_reports.specs.Ledger.{paid_for, is_reversed, standing_cents, standing_total, paid_cents, back_cents, held_at, IsLedgerOf, standing_in, Takes, over, move_cause, moves_cause, reversing_cause, taking_cause}
 use Rattle.claim_reports.proofs.Ledgers.{IsTaken, stood_is, taken}
+use Rattle.claim_reports.proofs.Readings.{some_is}
 use Rattle.claim_reports.proofs.Snocs.{paid_stays}
 use Rattle.claim_reports.proofs.Telling.{tells_first, tells_same}
-
-some_is : (x y : ℕ) → ◌≡◌ {A = Option ℕ} (Some x) (Some y) → x ≡ y
-some_is x y e = ap (λ (o : Option ℕ). unwrap_or o x) e
 
 -- what stands is part of what stands in all
 within : (gone : ℕ → Bool) (a c : ℕ) (xs : List Move) → paid_for a xs ≡ Some c → gone a ≡ false → c ≤ sum_by (standing_cents gone) xs
@@ -62,17 +60,6 @@ taking_is xs l number (Reversed a) is =
     let stood = stood_is (paid_for a xs) (is_reversed a xs) c e in
     within (λ (q : ℕ). is_reversed q xs) a c xs stood.0 stood.1)
 
--- a sum that fits, and one that does not
-pub fits : (sum : ℕ) → sum < 2 ^ 64 → over sum ≡ None
-fits sum lt = by_test (nat_le (2 ^ 64) sum) refl
-  where
-    by_test : (b : Bool) → nat_le (2 ^ 64) sum ≡ b → (if b then Some TooLarge else None) ≡ None
-    by_test true e = let le = leb-true (2 ^ 64) sum e in absurd (omega (arith, le, lt))
-    by_test false e = refl
-
-pub too_large : (sum : ℕ) → 2 ^ 64 ≤ sum → over sum ≡ Some TooLarge
-too_large sum le = ap (λ (b : Bool). if b then Some TooLarge else None) (le-leb (2 ^ 64) sum le)
-
 -- ---- ruling by ruling
 
 one_taken : (xs : List Move) (m : Move) (old new : Ledger) (moved : Moved) → Takes old new m moved → IsLedgerOf xs old → IsTaken xs m (xs ++ m ∷ []) old new moved
@@ -91,21 +78,33 @@ next before moves i number paid reversed d lt = ap (λ (ms : List Move). moves_c
 taken_more : (before moves : List Move) (i : ℕ) (d : Move) → i < length moves → (before ++ take i moves) ++ get_or moves i d ∷ [] ≡ before ++ take (i + 1) moves
 taken_more before moves i d lt = append_assoc before (take i moves) (get_or moves i d ∷ []) ∙ ap (λ (xs : List Move). before ++ xs) (sym (take_more moves i d lt))
 
-pub good_more : (all : Option Cause) (before moves : List Move) (i number paid reversed : ℕ) (d : Move) (old new : Ledger) (moved : Moved) (more_paid more_reversed : ℕ)
+-- where the next is taken, its sums are wrong, or what is left after it
+taken_on : (all : Option Cause) (before moves : List Move) (i number paid reversed : ℕ) (d : Move) (old new : Ledger) (moved : Moved)
     → i < length moves → IsLedgerOf (before ++ take i moves) old → Takes old new (get_or moves i d) moved → taking_cause old number (get_or moves i d) ≡ None
-    → more_paid ≡ paid + moved.paid → more_paid < 2 ^ 64 → more_reversed ≡ reversed + moved.reversed → more_reversed < 2 ^ 64
     → all ≡ moves_cause (before ++ take i moves) number paid reversed (drop i moves)
-    → all ≡ moves_cause (before ++ take (i + 1) moves) (number + 1) more_paid more_reversed (drop (i + 1) moves)
-good_more all before moves i number paid reversed d old new moved more_paid more_reversed lt is takes none adds fit gives fit_too so_far =
+    → all ≡ option_or (over (paid + moved.paid)) (option_or (over (reversed + moved.reversed))
+    (moves_cause (before ++ take (i + 1) moves) (number + 1) (paid + moved.paid) (reversed + moved.reversed) (drop (i + 1) moves)))
+taken_on all before moves i number paid reversed d old new moved lt is takes none so_far =
     let m = get_or moves i d in
     let xs = before ++ take i moves in
     let one = one_taken xs m old new moved takes is in
-    let paid_is : paid + paid_cents m ≡ more_paid = ap (λ (n : ℕ). paid + n) (sym one.paid) ∙ sym adds in
-    let back_is : reversed + back_cents (xs ++ m ∷ []) m ≡ more_reversed = ap (λ (n : ℕ). reversed + n) (sym one.reversed) ∙ sym gives in
     so_far ∙ next before moves i number paid reversed d lt
     ∙ (λ j. option_or ((sym (taking_is xs old number m is) ∙ none) j)
-    (option_or ((ap over paid_is ∙ fits more_paid fit) j) (option_or ((ap over back_is ∙ fits more_reversed fit_too) j)
-    (moves_cause (taken_more before moves i d lt j) (number + 1) (paid_is j) (back_is j) (drop (i + 1) moves)))))
+    (option_or (over (paid + sym one.paid j)) (option_or (over (reversed + sym one.reversed j))
+    (moves_cause (taken_more before moves i d lt j) (number + 1) (paid + sym one.paid j) (reversed + sym one.reversed j) (drop (i + 1) moves)))))
+
+pub good_more : (all : Option Cause) (before moves : List Move) (i number paid reversed : ℕ) (d : Move) (old new : Ledger) (moved : Moved)
+    → i < length moves → IsLedgerOf (before ++ take i moves) old → Takes old new (get_or moves i d) moved → taking_cause old number (get_or moves i d) ≡ None
+    → option_or (over (paid + moved.paid)) (over (reversed + moved.reversed)) ≡ None
+    → all ≡ moves_cause (before ++ take i moves) number paid reversed (drop i moves)
+    → all ≡ moves_cause (before ++ take (i + 1) moves) (number + 1) (paid + moved.paid) (reversed + moved.reversed) (drop (i + 1) moves)
+good_more all before moves i number paid reversed d old new moved lt is takes none fit so_far =
+    taken_on all before moves i number paid reversed d old new moved lt is takes none so_far ∙ fits_both (over (paid + moved.paid)) (over (reversed + moved.reversed)) _ fit
+  where
+    fits_both : (x y z : Option Cause) → option_or x y ≡ None → option_or x (option_or y z) ≡ z
+    fits_both None None z e = refl
+    fits_both None (Some f) z e = absurd (cc e)
+    fits_both (Some f) y z e = absurd (cc e)
 
 -- the first that is wrong
 pub wrong_here : (all : Option Cause) (e : ReportFault) (before moves : List Move) (i number paid reversed : ℕ) (d : Move) (old : Ledger)
@@ -115,34 +114,17 @@ wrong_here all e before moves i number paid reversed d old lt is tells so_far =
     tells_same e _ all (so_far ∙ next before moves i number paid reversed d lt)
     (tells_first e _ _ (tells_same e _ _ (sym (taking_is (before ++ take i moves) old number (get_or moves i d) is)) tells))
 
--- with it what was paid is too large, or what was reversed
-pub paid_here : (all : Option Cause) (before moves : List Move) (i number paid reversed : ℕ) (d : Move) (old new : Ledger) (moved : Moved)
-    → i < length moves → IsLedgerOf (before ++ take i moves) old → Takes old new (get_or moves i d) moved → taking_cause old number (get_or moves i d) ≡ None → 2 ^ 64 ≤ paid + moved.paid
-    → all ≡ moves_cause (before ++ take i moves) number paid reversed (drop i moves) → all ≡ Some TooLarge
-paid_here all before moves i number paid reversed d old new moved lt is takes none le so_far =
-    let m = get_or moves i d in
-    let xs = before ++ take i moves in
-    let one = one_taken xs m old new moved takes is in
-    let back = back_cents (xs ++ m ∷ []) m in
-    so_far ∙ next before moves i number paid reversed d lt
-    ∙ (λ j. option_or ((sym (taking_is xs old number m is) ∙ none) j)
-    (option_or ((ap (λ (n : ℕ). over (paid + n)) (sym one.paid) ∙ too_large (paid + moved.paid) le) j)
-    (option_or (over (reversed + back)) (moves_cause (xs ++ m ∷ []) (number + 1) (paid + paid_cents m) (reversed + back) (drop (i + 1) moves)))))
-
-pub back_here : (all : Option Cause) (before moves : List Move) (i number paid reversed : ℕ) (d : Move) (old new : Ledger) (moved : Moved)
-    → i < length moves → IsLedgerOf (before ++ take i moves) old → Takes old new (get_or moves i d) moved → taking_cause old number (get_or moves i d) ≡ None → paid + moved.paid < 2 ^ 64
-    → 2 ^ 64 ≤ reversed + moved.reversed
-    → all ≡ moves_cause (before ++ take i moves) number paid reversed (drop i moves) → all ≡ Some TooLarge
-back_here all before moves i number paid reversed d old new moved lt is takes none fit le so_far =
-    let m = get_or moves i d in
-    let xs = before ++ take i moves in
-    let one = one_taken xs m old new moved takes is in
-    let back = back_cents (xs ++ m ∷ []) m in
-    so_far ∙ next before moves i number paid reversed d lt
-    ∙ (λ j. option_or ((sym (taking_is xs old number m is) ∙ none) j)
-    (option_or ((ap (λ (n : ℕ). over (paid + n)) (sym one.paid) ∙ fits (paid + moved.paid) fit) j)
-    (option_or ((ap (λ (n : ℕ). over (reversed + n)) (sym one.reversed) ∙ too_large (reversed + moved.reversed) le) j)
-    (moves_cause (xs ++ m ∷ []) (number + 1) (paid + paid_cents m) (reversed + back) (drop (i + 1) moves)))))
+-- with it the sums are wrong
+pub sums_wrong : (all : Option Cause) (e : ReportFault) (before moves : List Move) (i number paid reversed : ℕ) (d : Move) (old new : Ledger) (moved : Moved)
+    → i < length moves → IsLedgerOf (before ++ take i moves) old → Takes old new (get_or moves i d) moved → taking_cause old number (get_or moves i d) ≡ None
+    → Tells e (option_or (over (paid + moved.paid)) (over (reversed + moved.reversed)))
+    → all ≡ moves_cause (before ++ take i moves) number paid reversed (drop i moves) → Tells e all
+sums_wrong all e before moves i number paid reversed d old new moved lt is takes none tells so_far =
+    tells_same e _ all (taken_on all before moves i number paid reversed d old new moved lt is takes none so_far) (ahead (over (paid + moved.paid)) (over (reversed + moved.reversed)) _ tells)
+  where
+    ahead : (x y z : Option Cause) → Tells e (option_or x y) → Tells e (option_or x (option_or y z))
+    ahead None y z tells = tells_first e y z tells
+    ahead (Some f) y z tells = tells
 
 pub good_end : (all : Option Cause) (before moves : List Move) (i number paid reversed : ℕ) → length moves ≤ i
     → all ≡ moves_cause (before ++ take i moves) number paid reversed (drop i moves) → all ≡ None

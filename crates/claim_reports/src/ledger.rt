@@ -1,12 +1,13 @@
 //! The ledger of a payer and a pharmacy: what was paid, what was reversed, and what stands.
 
 ghost use Rattle.std.specs.Prelude.{◌≡◌, ◌<◌, ◌+◌, ◌++◌, ◌^◌, [], List, length, IfOk};
+ghost use Rattle.std.specs.Option.{option_or};
 ghost use Rattle.std.specs.Ordering.{nat_cmp};
 ghost use Rattle.std.specs.BTreeMap.{get};
 ghost use Rattle.claim_reports.specs.declared.ledger.Move.{Move};
 ghost use Rattle.claim_reports.specs.declared.ledger.Move.TheVariants.{Paid as PaidSeen, Reversed as ReversedSeen};
 ghost use Rattle.claim_reports.specs.Causes.{RefusesFor};
-ghost use Rattle.claim_reports.specs.Ledger.{moves_cause, period_cause, taking_cause, IsLedgerOf, Pays, Reverses, Takes, TakesAll, IsPeriod, back_cents, cents_in, standing_in};
+ghost use Rattle.claim_reports.specs.Ledger.{moves_cause, period_cause, taking_cause, IsLedgerOf, Pays, Reverses, Takes, TakesAll, IsPeriod, back_cents, cents_in, standing_in, over};
 
 use crate::fault::ReportFault;
 use std::alloc::Global;
@@ -122,21 +123,16 @@ impl Ledger {
         ensures refuses { (before : List Move) → IsLedgerOf before self.old → passed + length moves.now < 2 ^ 64
             → RefusesFor result (moves_cause before (passed + 1) 0 0 moves.now) }
     {
-        let mut paid = 0u64;
-        let mut reversed = 0u64;
+        let mut all = Moved {
+            paid: 0,
+            reversed: 0,
+        };
         for (place, ruling) in moves.iter().enumerate() {
             let number = passed.saturating_add(place as u64).saturating_add(1);
             let moved = self.take(number, *ruling)?;
-            let Some(more) = paid.checked_add(moved.paid) else {
-                return Err(ReportFault::TooLarge);
-            };
-            paid = more;
-            let Some(more) = reversed.checked_add(moved.reversed) else {
-                return Err(ReportFault::TooLarge);
-            };
-            reversed = more;
+            all = all.and(moved)?;
         }
-        Ok(Moved { paid, reversed })
+        Ok(all)
     }
 
     /// Takes a ruling of this number, and gives what it moved.
@@ -221,5 +217,25 @@ impl Ledger {
             Some(held) if !held.reversed => Some(held.cents),
             _ => None,
         }
+    }
+}
+
+impl Moved {
+    /// Both together.
+    fn and(self, more: Moved) -> Result<Moved, ReportFault>
+        ensures sums { IfOk result (λ all. all ≡ record {
+          paid = self.paid + more.paid;
+          reversed = self.reversed + more.reversed;
+        }) }
+        ensures refuses { RefusesFor result
+            (option_or (over (self.paid + more.paid)) (over (self.reversed + more.reversed))) }
+    {
+        let Some(paid) = self.paid.checked_add(more.paid) else {
+            return Err(ReportFault::TooLarge);
+        };
+        let Some(reversed) = self.reversed.checked_add(more.reversed) else {
+            return Err(ReportFault::TooLarge);
+        };
+        Ok(Moved { paid, reversed })
     }
 }
