@@ -213,8 +213,7 @@ fn is_routed_to(routes: &Routes, row: &Row, payer: usize) -> bool
     let Some(framed) = check_readable(row.request()) else {
         return false;
     };
-    match routes.payer_under(row.id().number(), &key_of(framed.header())) {
-        Some(found) => found.get() as usize == payer,
-        None => false,
-    }
+    routes
+        .payer_under(row.id().number(), &key_of(framed.header()))
+        .is_some_and(|found| found.get() as usize == payer)
 }

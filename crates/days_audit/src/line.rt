@@ -56,10 +56,9 @@ impl<'a> Line<'a> {
 
     /// Whether the next call is a stop.
     pub(crate) fn stops(&self) -> bool {
-        match self.left.first() {
-            Some(one) => is_stop(one.call()),
-            None => false,
-        }
+        self.left
+            .first()
+            .is_some_and(|one| matches!(one.call(), Call::Stop))
     }
 
     /// What is left after the next call.
@@ -71,13 +70,5 @@ impl<'a> Line<'a> {
             node: self.node,
             left: &self.left[1..],
         }
-    }
-}
-
-/// Whether a call stops a node.
-fn is_stop(call: &Call) -> bool {
-    match call {
-        Call::Stop => true,
-        _ => false,
     }
 }

@@ -141,10 +141,7 @@ impl<'a> Order<'a> {
 
     /// Whether the next call of the log at a place is a stop.
     fn stops(&self, place: usize) -> bool {
-        match self.lines.get(place) {
-            Some(line) => line.stops(),
-            None => false,
-        }
+        self.lines.get(place).is_some_and(|line| line.stops())
     }
 
     /// The log at a place waits for what its next packet has.

@@ -35,12 +35,9 @@ impl Live {
             (IsVouched (bytes_with routes.now) (world_of self.now) (call_seen call.now))) }
     {
         match call {
-            Call::Take { from: _, bytes } => self.carries(alloc, routes, bytes),
-            Call::Adjudicate {
-                from: _,
-                bytes,
-                advice: _,
-            } => self.carries(alloc, routes, bytes),
+            Call::Take { bytes, .. } | Call::Adjudicate { bytes, .. } => {
+                self.carries(alloc, routes, bytes)
+            }
             Call::Submit(_)
             | Call::Tick
             | Call::Stop

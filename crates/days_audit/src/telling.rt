@@ -4,8 +4,8 @@ ghost use Rattle.std.specs.Prelude.{◌≡◌, ◌++◌, OnOk};
 ghost use Rattle.days_audit.specs.Telling.{legal_text, not_text};
 
 use crate::agreeing::Misfit;
-use crate::taken::{answer_id, packet_of, request_id};
-use envelope::TxnId;
+use crate::taken::{id_of, packet_of};
+use envelope::{Kind, TxnId};
 use input_text::put_decimal;
 use node_log::{NodeLog, Record};
 use octets::Octets;
@@ -90,7 +90,7 @@ fn put_matter(out: &mut Vec<u8>, one: &Record) -> Result<(), AllocError> {
 
 /// Appends what it is of a packet that nothing vouches for.
 fn put_packet(out: &mut Vec<u8>, packet: &Octets) -> Result<(), AllocError> {
-    if let Some(id) = request_id(packet) {
+    if let Some(id) = id_of(packet, Kind::Request) {
         return put_id(
             out,
             b": the request of ",
@@ -98,7 +98,7 @@ fn put_packet(out: &mut Vec<u8>, packet: &Octets) -> Result<(), AllocError> {
             b" was not submitted before\n",
         );
     }
-    if let Some(id) = answer_id(packet) {
+    if let Some(id) = id_of(packet, Kind::Answer) {
         return put_id(out, b": the answer to ", id, b" was not decided before\n");
     }
     out.extend_from_slice(b": what it takes is no envelope\n")

@@ -2,8 +2,8 @@
 
 ghost use Rattle.std.specs.Prelude.{◌≡◌, ◌<◌, length, IfSome};
 
-use crate::taken::{answer_id, request_id};
-use envelope::TxnId;
+use crate::taken::id_of;
+use envelope::{Kind, TxnId};
 use octets::Octets;
 use std::alloc::{AllocError, Global};
 use std::collections::HashMap;
@@ -27,12 +27,8 @@ pub(crate) struct Woken {
 impl Woken {
     /// All of so many logs.
     pub(crate) fn all(alloc: Global, logs: usize) -> Result<Woken, AllocError> {
-        let mut awake = Vec::new(alloc);
-        for place in 0..logs {
-            awake.push(place)?;
-        }
         Ok(Woken {
-            awake,
+            awake: (0..logs).collect(alloc)?,
             stopping: Vec::new(alloc),
             requests: HashMap::new(alloc),
             answers: HashMap::new(alloc),
@@ -66,10 +62,10 @@ impl Woken {
         ensures awake { self.new.awake ≡ self.old.awake }
         ensures stopping { self.new.stopping ≡ self.old.stopping }
     {
-        if let Some(id) = request_id(packet) {
+        if let Some(id) = id_of(packet, Kind::Request) {
             return put(&mut self.requests, id, place);
         }
-        if let Some(id) = answer_id(packet) {
+        if let Some(id) = id_of(packet, Kind::Answer) {
             return put(&mut self.answers, id, place);
         }
         Ok(())
@@ -78,10 +74,10 @@ impl Woken {
     /// Wakes the log at this place, and those that wait for what was sent.
     pub(crate) fn wake(&mut self, place: usize, sent: &[Sent]) -> Result<(), AllocError> {
         for one in sent {
-            if let Some(id) = request_id(&one.bytes) {
+            if let Some(id) = id_of(&one.bytes, Kind::Request) {
                 wake_one(&mut self.awake, &mut self.requests, id)?;
             }
-            if let Some(id) = answer_id(&one.bytes) {
+            if let Some(id) = id_of(&one.bytes, Kind::Answer) {
                 wake_one(&mut self.awake, &mut self.answers, id)?;
             }
         }
