@@ -28,19 +28,21 @@ struct Gaps {
 
 impl Columns {
     /// No columns yet.
-    pub(crate) fn empty(alloc: Global, _lanes: Lanes) -> Result<Columns, AllocError> {
-        Ok(Columns {
+    pub(crate) fn empty(alloc: Global) -> Columns {
+        Columns {
             xs: Vec::new(alloc),
             width: 0,
-        })
+        }
     }
 
     /// The columns that the words of a plan need.
     pub(crate) fn of(plan: &Plan<'_>) -> Result<Columns, AllocError> {
         let mut gaps = Gaps::least(plan.alloc, plan.lanes)?;
         for mark in plan.marks {
-            gaps.take_caption(plan, mark)?;
-            gaps.take(plan, mark)?;
+            if plan.is_drawn(mark.event()) {
+                gaps.take_caption(plan, mark)?;
+                gaps.take(plan, mark)?;
+            }
         }
         gaps.columns(plan.alloc)
     }
@@ -76,20 +78,20 @@ impl Gaps {
     fn take(&mut self, plan: &Plan<'_>, mark: &Mark) -> Result<(), AllocError> {
         match *mark {
             Mark::Sent {
-                event,
                 packet,
                 from,
                 to,
-            } if plan.is_drawn(event) => {
+                ..
+            } => {
                 let side = plan.lanes.side(from, to);
                 self.want(from, side, plan.label(packet).len());
             }
-            Mark::Refused { event, fault } if plan.is_drawn(event) => {
+            Mark::Refused { event, fault } => {
                 if let Some((node, side)) = plan.refusal_at(event, fault) {
                     self.want(node, side, refusal_of(plan.alloc, fault)?.len());
                 }
             }
-            Mark::Revised { event, node } if plan.is_drawn(event) => {
+            Mark::Revised { event, node } => {
                 let note = note_of(plan.alloc, plan.events, event)?;
                 self.want(node, Side::Right, note.len());
             }
@@ -101,10 +103,8 @@ impl Gaps {
     /// Makes room for the words at the left of the row that a mark begins.
     fn take_caption(&mut self, plan: &Plan<'_>, mark: &Mark) -> Result<(), AllocError> {
         if let Some((event, refused)) = begun_by(mark) {
-            if plan.is_drawn(event) {
-                let caption = caption_of(plan, event, refused)?;
-                self.captions = self.captions.max(width_of(caption.len()));
-            }
+            let caption = caption_of(plan, event, refused)?;
+            self.captions = self.captions.max(width_of(caption.len()));
         }
         Ok(())
     }

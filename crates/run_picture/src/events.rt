@@ -12,14 +12,9 @@ use world_setup::{Event, Fault};
 /// The event whose row a mark begins, and why it was refused.
 pub(crate) fn begun_by(mark: &Mark) -> Option<(u64, Option<Fault>)> {
     match *mark {
-        Mark::Submitted { event, .. } => Some((event, None)),
-        Mark::Ticked { event, .. } => Some((event, None)),
-        Mark::Arrived { event, .. } => Some((event, None)),
-        Mark::Stopped { event, .. } => Some((event, None)),
-        Mark::Started { event, .. } => Some((event, None)),
-        Mark::Revised { event, .. } => Some((event, None)),
-        Mark::Refused { event, fault } => Some((event, Some(fault))),
         Mark::Sent { .. } => None,
+        Mark::Refused { event, fault } => Some((event, Some(fault))),
+        _ => Some((mark.event(), None)),
     }
 }
 

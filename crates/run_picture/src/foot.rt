@@ -163,11 +163,7 @@ impl Foot {
 
 /// Appends whether the payment of an authorization stands.
 fn put_standing(out: &mut Vec<u8>, book: &Book, auth: Auth) -> Result<(), AllocError> {
-    let reversal = match book.payment(auth) {
-        Some(payment) => payment.reversed_by,
-        None => None,
-    };
-    match reversal {
+    match book.payment(auth).and_then(|payment| payment.reversed_by) {
         Some(id) => {
             out.extend_from_slice(b", reversed by ")?;
             put_txn(out, id)

@@ -42,10 +42,7 @@ fn put_content(
         return label.extend_from_slice(b": a packet");
     };
     let id = envelope.id();
-    let is_answer = match envelope.kind() {
-        Kind::Request => false,
-        Kind::Answer => true,
-    };
+    let is_answer = matches!(envelope.kind(), Kind::Answer);
     put_kind(label, is_answer, id)?;
     if is_answer {
         put_answer(label, alloc, envelope.payload())?;

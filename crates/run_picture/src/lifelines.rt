@@ -19,12 +19,11 @@ struct Reach {
 /// Draws the lifelines of all nodes.
 pub(crate) fn draw_lifelines(drawing: &mut Drawing, plan: &Plan<'_>) -> Result<(), AllocError> {
     let mut reaches = Vec::new(plan.alloc);
-    for _ in 0..plan.lanes.len() {
-        reaches.push(Reach {
-            y: on(NAMES, NAME_HEIGHT),
-            up: true,
-        })?;
-    }
+    let begin = Reach {
+        y: on(NAMES, NAME_HEIGHT),
+        up: true,
+    };
+    reaches.resize(plan.lanes.len(), begin)?;
     for mark in plan.marks {
         match *mark {
             Mark::Stopped { event, node } => {

@@ -48,3 +48,19 @@ pub enum Mark {
         fault: Fault,
     },
 }
+
+impl Mark {
+    /// The number of its event.
+    pub(crate) fn event(&self) -> u64 {
+        match *self {
+            Mark::Submitted { event, .. }
+            | Mark::Ticked { event, .. }
+            | Mark::Arrived { event, .. }
+            | Mark::Stopped { event, .. }
+            | Mark::Started { event, .. }
+            | Mark::Revised { event, .. }
+            | Mark::Sent { event, .. }
+            | Mark::Refused { event, .. } => event,
+        }
+    }
+}

@@ -91,11 +91,7 @@ fn made_mark(number: u64, event: &Event) -> Mark
             event: number,
             node: *node,
         },
-        Event::Plan { payer, .. } => Mark::Revised {
-            event: number,
-            node: Node::Payer(*payer),
-        },
-        Event::Terms { payer, .. } => Mark::Revised {
+        Event::Plan { payer, .. } | Event::Terms { payer, .. } => Mark::Revised {
             event: number,
             node: Node::Payer(*payer),
         },

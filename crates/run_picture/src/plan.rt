@@ -36,7 +36,6 @@ impl<'a> Plan<'a> {
         let lanes = Lanes::of_world(world);
         let labels = labels_of(alloc, lanes, world.packets())?;
         let rows = Rows::of(alloc, events, marks, hidden)?;
-        let columns = Columns::empty(alloc, lanes)?;
         let mut plan = Plan {
             alloc,
             events,
@@ -45,7 +44,7 @@ impl<'a> Plan<'a> {
             lanes,
             labels,
             rows,
-            columns,
+            columns: Columns::empty(alloc),
         };
         let columns = Columns::of(&plan)?;
         plan.columns = columns;
@@ -71,10 +70,7 @@ impl<'a> Plan<'a> {
 
     /// The line of an event.
     pub(crate) fn y(&self, event: u64) -> u64 {
-        match self.rows.row(event) {
-            Some(row) => row.y,
-            None => 0,
-        }
+        self.rows.row(event).map_or(0, |row| row.y)
     }
 
     /// The line of the lifeline of a node.

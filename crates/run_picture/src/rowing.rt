@@ -36,10 +36,7 @@ pub(crate) fn draw_rules(drawing: &mut Drawing, plan: &Plan<'_>) -> Result<(), A
 pub(crate) fn draw_doings(drawing: &mut Drawing, plan: &Plan<'_>) -> Result<(), AllocError> {
     for mark in plan.marks {
         match *mark {
-            Mark::Submitted { event, pharmacy } => {
-                draw_bar(drawing, plan, event, Node::Pharmacy(pharmacy))?
-            }
-            Mark::Ticked { event, pharmacy } => {
+            Mark::Submitted { event, pharmacy } | Mark::Ticked { event, pharmacy } => {
                 draw_bar(drawing, plan, event, Node::Pharmacy(pharmacy))?
             }
             Mark::Revised { event, node } => draw_bar(drawing, plan, event, node)?,
@@ -48,8 +45,9 @@ pub(crate) fn draw_doings(drawing: &mut Drawing, plan: &Plan<'_>) -> Result<(), 
                     draw_bar(drawing, plan, event, departure.to)?;
                 }
             }
-            Mark::Stopped { event, node } => draw_turn(drawing, plan, event, node)?,
-            Mark::Started { event, node } => draw_turn(drawing, plan, event, node)?,
+            Mark::Stopped { event, node } | Mark::Started { event, node } => {
+                draw_turn(drawing, plan, event, node)?
+            }
             Mark::Refused { event, fault } => draw_refusal(drawing, plan, event, fault)?,
             Mark::Sent { .. } => {}
         }
@@ -125,8 +123,10 @@ fn draw_refusal(
 /// Writes the words of all rows that are drawn.
 pub(crate) fn write_rows(drawing: &mut Drawing, plan: &Plan<'_>) -> Result<(), AllocError> {
     for mark in plan.marks {
-        write_caption(drawing, plan, mark)?;
-        write_mark(drawing, plan, mark)?;
+        if plan.is_drawn(mark.event()) {
+            write_caption(drawing, plan, mark)?;
+            write_mark(drawing, plan, mark)?;
+        }
     }
     Ok(())
 }
@@ -136,9 +136,6 @@ fn write_caption(drawing: &mut Drawing, plan: &Plan<'_>, mark: &Mark) -> Result<
     let Some((event, refused)) = begun_by(mark) else {
         return Ok(());
     };
-    if !plan.is_drawn(event) {
-        return Ok(());
-    }
     let at = Point {
         x: MARGIN,
         y: on(plan.y(event), BASE),
@@ -175,9 +172,6 @@ fn write_at(
     node: Node,
     words: &[u8],
 ) -> Result<(), AllocError> {
-    if !plan.is_drawn(event) {
-        return Ok(());
-    }
     let y = on(plan.y(event), BASE);
     write_beside(drawing, Side::Right, plan.x(node), y, words)
 }
@@ -189,9 +183,6 @@ fn write_refusal(
     event: u64,
     fault: Fault,
 ) -> Result<(), AllocError> {
-    if !plan.is_drawn(event) {
-        return Ok(());
-    }
     let Some((node, side)) = plan.refusal_at(event, fault) else {
         return Ok(());
     };
@@ -211,9 +202,6 @@ fn write_label(
     let Some(departure) = plan.rows.departure(packet) else {
         return Ok(());
     };
-    if !departure.drawn {
-        return Ok(());
-    }
     let side = plan.lanes.side(from, to);
     let y = back(departure.y, ABOVE);
     write_beside(drawing, side, plan.x(from), y, plan.label(packet))

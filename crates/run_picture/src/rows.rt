@@ -96,11 +96,6 @@ impl Rows {
     /// Adds what a mark needs.
     fn add(&mut self, events: &[Event], mark: &Mark, hidden: Hidden) -> Result<(), AllocError> {
         match *mark {
-            Mark::Submitted { event, .. } => self.add_row(event, ROW_REST, hidden),
-            Mark::Ticked { event, .. } => self.add_row(event, ROW_REST, hidden),
-            Mark::Stopped { event, .. } => self.add_row(event, ROW_REST, hidden),
-            Mark::Started { event, .. } => self.add_row(event, ROW_REST, hidden),
-            Mark::Revised { event, .. } => self.add_row(event, ROW_REST, hidden),
             Mark::Arrived { event, packet } => {
                 self.meet(Some(packet));
                 self.add_row(event, ROW_REST, hidden)
@@ -115,6 +110,7 @@ impl Rows {
                 to,
                 ..
             } => self.add_departure(hidden.has(event), from, to),
+            _ => self.add_row(mark.event(), ROW_REST, hidden),
         }
     }
 

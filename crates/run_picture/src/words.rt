@@ -69,7 +69,7 @@ fn extent_in(word: &[u8]) -> Option<Extent> {
     if word == b"all".as_slice() {
         return Some(Extent::All);
     }
-    let hyphen = word.iter().position(is_hyphen)?;
+    let hyphen = word.iter().position(|byte| *byte == b'-')?;
     let first = read_decimal(&word[..hyphen], MOST_DIGITS)?;
     let last = read_decimal(&word[hyphen + 1..], MOST_DIGITS)?;
     if 1 <= first && first <= last {
@@ -77,9 +77,4 @@ fn extent_in(word: &[u8]) -> Option<Extent> {
     } else {
         None
     }
-}
-
-/// Whether a byte parts the two numbers.
-fn is_hyphen(byte: &u8) -> bool {
-    *byte == b'-'
 }
