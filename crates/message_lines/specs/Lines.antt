@@ -2,13 +2,13 @@
 use Rattle.std.specs.Prelude.{ℕ, Bool, true, false, List, codes, bytes_eq, Option, None, Some, Result, Ok, Err, if◌then◌else◌}
 use Rattle.d0_segments.specs.Separators.{begins_with}
 use Rattle.input_text.specs.Printing.{unprinted}
-use Rattle.message_words.specs.declared.dissecting.MessageKind.{MessageKind}
-use Rattle.message_words.specs.declared.dissecting.MessageKind.TheVariants as kind
+use Rattle.message_parts.specs.declared.dissecting.MessageKind.{MessageKind}
+use Rattle.message_parts.specs.declared.dissecting.MessageKind.TheVariants as kind
 use Rattle.message_words.specs.declared.page.Style.{Style}
 use Rattle.message_words.specs.declared.spelling.Spelling.{Spelling}
 use Rattle.message_words.specs.declared.spelling.Spelling.TheVariants as spelling
 use Rattle.message_words.specs.Described.{description}
-use Rattle.message_words.specs.Naming.{kind_of}
+use Rattle.message_parts.specs.Naming.{kind_of}
 use Rattle.message_words.specs.Spelled.{ends_with, hex_spelled, without_first, without_last}
 use Rattle.message_words.specs.Written.{unspelled_words}
 

@@ -6,7 +6,8 @@ ghost use Rattle.std.specs.Option.{option_map};
 ghost use Rattle.message_words.specs.Spelled.{FailsAt};
 ghost use Rattle.message_lines.specs.Lines.{kind_in, kind_worded, spelled, spelling_asked};
 
-use message_words::{MessageKind, Spelling, SpellingFault, Style, hex_bytes, printed_bytes};
+use message_parts::MessageKind;
+use message_words::{Spelling, SpellingFault, Style, hex_bytes, printed_bytes};
 use std::alloc::Global;
 
 /// How lines spell messages, and what these are.

@@ -5,7 +5,7 @@ use Rattle.std.proofs.lemmas.Bool.{false≢true}
 use Rattle.std.proofs.lemmas.Bool.Decides.{nat_tests}
 use Rattle.std.proofs.lemmas.List.{take-replicate, length-replicate}
 use Rattle.input_text.specs.Printing.{printed, printed_byte, stands_for_itself}
-use Rattle.message_words.proofs.AtRest.{take_min}
+use Rattle.message_parts.proofs.AtRest.{take_min}
 use Rattle.message_words.specs.Encoded.{spaces, is_letter, json_letter, json_letters}
 
 -- the first of as many spaces

@@ -8,7 +8,7 @@ use Rattle.std.proofs.lemmas.Bool.Decides.{nat_tests}
 use Rattle.message_words.specs.InputLines.{line_length, has_newline, without_return, first_line, IsNextLine, AreAll, LongFor, longest}
 use Rattle.message_words.specs.declared.line_source.InputFault.{InputFault}
 use Rattle.message_words.specs.declared.line_source.InputFault.TheVariants.{OutOfMemory, Read, TooLong}
-use Rattle.message_words.proofs.AtRest.{take_min, drop_min}
+use Rattle.message_parts.proofs.AtRest.{take_min, drop_min}
 
 -- a stretch of bytes
 pub stretch_is : (bytes : List ℕ) (from to begin end : ℕ) → end ≡ min to (length bytes) → begin ≡ min from end → take (end - begin) (drop begin bytes) ≡ drop from (take to bytes)

@@ -1,14 +1,3 @@
-pub mod Cutting
-pub mod Bytes
-pub mod Heads
-pub mod Bodies
-pub mod AtRest
-pub mod Wholes
-pub mod Counting
-pub mod Conditions
-pub mod CauseLaws
-pub mod NextFindings
-pub mod Framed
 pub mod Hex
 pub mod Written
 pub mod InputLines
@@ -21,8 +10,6 @@ pub mod Requests
 pub mod AllFound
 pub mod Envelopes
 pub mod Rulings
-pub mod RecordParts
-pub mod RecordLaws
 pub mod Filling
 pub mod Objects
 pub mod PlainNames

@@ -2,20 +2,20 @@
 use Rattle.std.proofs.Common.{◌≡◌, ℕ, Bool, true, false, List, [], ◌∷◌, Option, None, Some, refl, if◌then◌else◌}
 use Rattle.std.specs.Prelude.{bytes_eq, drop}
 use Rattle.std.specs.List.{list_all}
-use Rattle.message_words.specs.declared.names.FieldName.{FieldName}
-use Rattle.message_words.specs.declared.names.FieldName.TheVariants as field
-use Rattle.message_words.specs.declared.marks.Mark.{Mark}
-use Rattle.message_words.specs.declared.marks.Mark.TheVariants as mark
-use Rattle.message_words.specs.declared.part.PartKind.{PartKind}
-use Rattle.message_words.specs.declared.part.PartKind.TheVariants as kind
+use Rattle.message_parts.specs.declared.names.FieldName.{FieldName}
+use Rattle.message_parts.specs.declared.names.FieldName.TheVariants as field
+use Rattle.message_parts.specs.declared.marks.Mark.{Mark}
+use Rattle.message_parts.specs.declared.marks.Mark.TheVariants as mark
+use Rattle.message_parts.specs.declared.part.PartKind.{PartKind}
+use Rattle.message_parts.specs.declared.part.PartKind.TheVariants as kind
 use Rattle.message_words.specs.Encoded.{is_letter}
-use Rattle.message_words.specs.FieldTitles.{Titles, titles_of, named_in, or_next}
-use Rattle.message_words.specs.Naming.{mark_names}
+use Rattle.message_parts.specs.FieldTitles.{Titles, titles_of, named_in, or_next}
+use Rattle.message_parts.specs.Naming.{mark_names}
 use Rattle.message_words.specs.Rows.{id_in, names_in, names_or}
-use Rattle.message_words.specs.Unused.{claim_or_answer_field, unused_field}
-use Rattle.message_words.specs.Unused as unused
-use Rattle.message_words.specs.AnswerFields.{answer_field}
-use Rattle.message_words.specs.AnswerFields as answers
+use Rattle.message_parts.specs.Unused.{claim_or_answer_field, unused_field}
+use Rattle.message_parts.specs.Unused as unused
+use Rattle.message_parts.specs.AnswerFields.{answer_field}
+use Rattle.message_parts.specs.AnswerFields as answers
 use Rattle.message_words.proofs.Encoded.{both_true}
 
 abbrev pub IsPlain : List ℕ → Type 0

@@ -5,18 +5,18 @@ use Rattle.std.specs.List.{AllByRecursion, list_all}
 use Rattle.std.proofs.lemmas.Bool.Decides.{nat_tests}
 use Rattle.std.proofs.lemmas.List.{map-append}
 use Rattle.input_text.specs.Printing.{hex_digit, is_printable, printed, printed_byte}
-use Rattle.message_words.specs.declared.dissecting.MessageKind.{MessageKind}
-use Rattle.message_words.specs.declared.dissecting.MessageKind.TheVariants as message
-use Rattle.message_words.specs.declared.part.PartKind.{PartKind}
-use Rattle.message_words.specs.declared.part.PartKind.TheVariants as kind
+use Rattle.message_parts.specs.declared.dissecting.MessageKind.{MessageKind}
+use Rattle.message_parts.specs.declared.dissecting.MessageKind.TheVariants as message
+use Rattle.message_parts.specs.declared.part.PartKind.{PartKind}
+use Rattle.message_parts.specs.declared.part.PartKind.TheVariants as kind
 use Rattle.message_words.specs.declared.page.Style.TheVariants.{Json}
 use Rattle.message_words.specs.AllFound.{found_text}
 use Rattle.message_words.specs.Described.{between_text, description, end_text, head_text, if_dropped, line_and_kind, size_between}
 use Rattle.message_words.specs.Encoded.{is_letter, json_letter, json_string, member_key, number_member, word_member}
-use Rattle.message_words.specs.FieldTitles.{Titles}
-use Rattle.message_words.specs.Messages.{message_told}
-use Rattle.message_words.specs.Naming.{kind_name}
-use Rattle.message_words.specs.Parts.{PartSeen}
+use Rattle.message_parts.specs.FieldTitles.{Titles}
+use Rattle.message_parts.specs.Messages.{message_told}
+use Rattle.message_parts.specs.Naming.{kind_name}
+use Rattle.message_parts.specs.Parts.{PartSeen}
 use Rattle.message_words.specs.Rows.{counted_with, group_text, meaning_in, name_member, names_in, place_member, row_object, row_of, rows_of, unless_empty, value_in, value_members}
 use Rattle.message_words.specs.Objects.{Member, Word, listing_in, shown_letter, member, shown}
 use Rattle.message_words.specs.ReadBack.{front_told, message_listing, number, part_told, parts_told, row_told, unless_none, word}

@@ -3,7 +3,7 @@ use Rattle.std.proofs.Common.{◌≡◌, ℕ, ◌-◌, Bool, nat_lt, List, ◌�
 use Rattle.d0_header.specs.Request.{Request}
 use Rattle.d0_segments.specs.Parts.{TransmissionParts}
 use Rattle.message_words.specs.declared.finding_page.FindingPage.{FindingPage}
-use Rattle.message_words.specs.Findings.{FindingSeen}
+use Rattle.message_parts.specs.Findings.{FindingSeen}
 use Rattle.message_words.specs.RequestWords.{finding_said, findings_said, left_to_tell, transaction_of}
 use Rattle.message_words.specs.Sayings.{Finds, Said}
 use Rattle.message_words.proofs.Sayings.{both_said}

@@ -2,23 +2,23 @@
 use Rattle.std.proofs.Common.{◌≡◌, ◌≤◌, ℕ, suc, ◌+◌, ◌-◌, ◌||◌, Bool, true, false, List, [], ◌∷◌, ◌++◌, length, take, drop, min, codes, refl, sym, ap, subst, ◌∙◌, arith}
 use Rattle.std.proofs.lemmas.List.{append_assoc, append-nil, take-append-le, take_all, length-append, length-take, length-drop, length-replicate, drop-replicate, replicate-append-replicate}
 use Rattle.std.proofs.lemmas.Bool.{false≢true}
-use Rattle.message_words.specs.declared.dissecting.Carried.{Carried}
-use Rattle.message_words.specs.declared.dissecting.MessageKind.{MessageKind}
-use Rattle.message_words.specs.declared.dissecting.MessageKind.TheVariants as message
+use Rattle.message_parts.specs.declared.dissecting.Carried.{Carried}
+use Rattle.message_parts.specs.declared.dissecting.MessageKind.{MessageKind}
+use Rattle.message_parts.specs.declared.dissecting.MessageKind.TheVariants as message
 use Rattle.message_words.specs.declared.finding_page.FindingPage.{FindingPage}
-use Rattle.message_words.specs.declared.layout.Form.TheVariants.{Request, Answer}
+use Rattle.message_parts.specs.declared.layout.Form.TheVariants.{Request, Answer}
 use Rattle.message_words.specs.declared.page.Page.{Page}
 use Rattle.message_words.specs.declared.text.Text.{Text}
 use Rattle.message_words.specs.AllFound.{FindsAll, found_text}
 use Rattle.message_words.specs.Described.{between_text, description, description_of, end_text, head_text, is_refused}
 use Rattle.message_words.specs.Encoded.{spaces, to_left, to_right}
-use Rattle.message_words.specs.Messages.{AreOf, message_told}
-use Rattle.message_words.specs.Parts.{PartSeen}
+use Rattle.message_parts.specs.Messages.{AreOf, message_told}
+use Rattle.message_parts.specs.Parts.{PartSeen}
 use Rattle.message_words.specs.Rows.{AddsRow, AddsRows, TakesRow, counted_with, meaning_behind, next_row, rows_of}
 use Rattle.message_words.specs.Sayings.{IsTaken}
-use Rattle.message_words.specs.Steps.{head_parts, packet_form, packet_rows, width_of}
+use Rattle.message_parts.specs.Steps.{head_parts, packet_form, packet_rows, width_of}
 use Rattle.message_words.specs.Written.{Takes}
-use Rattle.message_words.proofs.AtRest.{transmission_is}
+use Rattle.message_parts.proofs.AtRest.{transmission_is}
 
 -- ---- pieces of a row
 

@@ -1,11 +1,11 @@
 -- All that is found of a message, as it is written.
 use Rattle.std.specs.Prelude.{◌≡◌, ℕ, Bool, false, List, [], ◌∷◌, ◌++◌, take, drop, map, Option, None, Some}
-use Rattle.message_words.specs.declared.dissecting.Carried.{Carried}
-use Rattle.message_words.specs.declared.dissecting.MessageKind.{MessageKind}
-use Rattle.message_words.specs.declared.dissecting.MessageKind.TheVariants as kind
+use Rattle.message_parts.specs.declared.dissecting.Carried.{Carried}
+use Rattle.message_parts.specs.declared.dissecting.MessageKind.{MessageKind}
+use Rattle.message_parts.specs.declared.dissecting.MessageKind.TheVariants as kind
 use Rattle.message_words.specs.declared.finding_page.FindingPage.{FindingPage}
-use Rattle.message_words.specs.declared.layout.Form.{Form}
-use Rattle.message_words.specs.declared.layout.Form.TheVariants.{Request, Answer}
+use Rattle.message_parts.specs.declared.layout.Form.{Form}
+use Rattle.message_parts.specs.declared.layout.Form.TheVariants.{Request, Answer}
 use Rattle.message_words.specs.declared.page.Style.{Style}
 use Rattle.message_words.specs.AnswerWords.{answer_said}
 use Rattle.message_words.specs.FaultWords.{envelope_said}

@@ -1,15 +1,15 @@
 -- The description of a message: its head, a row for each part, and what is found.
 use Rattle.std.specs.Prelude.{ℕ, Bool, false, ◌||◌, List, [], ◌++◌, length, codes, if◌then◌else◌}
 use Rattle.std.specs.Fmt.{decimal}
-use Rattle.message_words.specs.declared.dissecting.Carried.{Carried}
-use Rattle.message_words.specs.declared.dissecting.MessageKind.{MessageKind}
+use Rattle.message_parts.specs.declared.dissecting.Carried.{Carried}
+use Rattle.message_parts.specs.declared.dissecting.MessageKind.{MessageKind}
 use Rattle.message_words.specs.declared.page.Page.{Page}
 use Rattle.message_words.specs.declared.page.Style.{Style}
 use Rattle.message_words.specs.declared.page.Style.TheVariants.{Lines, Json}
 use Rattle.message_words.specs.AllFound.{found_text}
-use Rattle.message_words.specs.Messages.{message_told}
-use Rattle.message_words.specs.Naming.{kind_name}
-use Rattle.message_words.specs.Parts.{PartSeen}
+use Rattle.message_parts.specs.Messages.{message_told}
+use Rattle.message_parts.specs.Naming.{kind_name}
+use Rattle.message_parts.specs.Parts.{PartSeen}
 use Rattle.message_words.specs.Rows.{rows_of}
 
 -- memory was refused for one of the texts of a page

@@ -1,5 +1,5 @@
 -- What the values of fields, and the numbers of marks, mean.
-use Rattle.std.specs.Prelude.{ℕ, ℤ, ◌+◌, ◌*◌, ◌%◌, ◌^◌, ◌==◌, List, [], ◌∷◌, ◌++◌, codes, Option, None, Some, Result, Ok, Err, if◌then◌else◌}
+use Rattle.std.specs.Prelude.{ℕ, ℤ, ◌+◌, ◌==◌, List, [], ◌++◌, codes, Option, None, Some, Result, Ok, Err, if◌then◌else◌}
 use Rattle.std.specs.Fmt.{decimal}
 use Rattle.std.specs.Str.{bytes_eq}
 use Rattle.overpunch.specs.Number.{number_of}
@@ -16,13 +16,14 @@ use Rattle.claim_profile.specs.Authorization.{Authorization, authorization_of}
 use Rattle.claim_profile.specs.Fields.{trimmed}
 use Rattle.claim_profile.specs.Ruling.{code_of}
 use Rattle.claim_profile.specs.Transaction.{transaction_code}
-use Rattle.message_words.specs.declared.marks.Mark.{Mark}
-use Rattle.message_words.specs.declared.names.FieldName.{FieldName}
-use Rattle.message_words.specs.declared.names.FieldName.TheVariants as field
+use Rattle.message_parts.specs.declared.marks.Mark.{Mark}
+use Rattle.message_parts.specs.declared.names.FieldName.{FieldName}
+use Rattle.message_parts.specs.declared.names.FieldName.TheVariants as field
 use Rattle.claim_profile.specs.CodeNames.{code_name}
-use Rattle.message_words.specs.FieldTitles.{holds_amount}
+use Rattle.message_parts.specs.FieldTitles.{holds_amount}
 use Rattle.message_words.specs.Figures.{dollars, units}
-use Rattle.message_words.specs.Naming.{spells_number}
+use Rattle.message_parts.specs.Naming.{spells_number}
+use Rattle.message_parts.specs.Numbers.{number_in}
 
 -- ---- words for a value
 
@@ -131,14 +132,6 @@ plain_meaning _ value = []
 -- what the value of a field means
 unfoldable pub meaning_of : FieldName → List ℕ → List ℕ
 meaning_of name value = if holds_amount name then amount_words (amount_of value) else plain_meaning name value
-
--- the number that bytes spell after another one, their high byte first; of more than eight bytes the last eight count
-abbrev pub number_behind : ℕ → List ℕ → ℕ
-number_behind number [] = number
-number_behind number (b ∷ bs) = number_behind ((number * 256 % 2 ^ 64 + b) % 2 ^ 64) bs
-
-unfoldable pub number_in : List ℕ → ℕ
-number_in bytes = number_behind 0 bytes
 
 -- what the bytes of a mark mean: the number that they spell, where they spell one
 unfoldable pub mark_meaning : Mark → List ℕ → List ℕ

@@ -2,14 +2,14 @@
 use Rattle.std.specs.Prelude.{ℕ, Bool, List, [], ◌∷◌, length, codes, ◌==◌, if◌then◌else◌}
 use Rattle.std.specs.Fmt.{decimal}
 use Rattle.input_text.specs.Printing.{printed}
-use Rattle.message_words.specs.declared.dissecting.MessageKind.{MessageKind}
-use Rattle.message_words.specs.declared.part.PartKind.{PartKind}
-use Rattle.message_words.specs.declared.part.PartKind.TheVariants as kind
-use Rattle.message_words.specs.FieldTitles.{Titles}
-use Rattle.message_words.specs.Messages.{message_told}
-use Rattle.message_words.specs.Naming.{kind_name}
+use Rattle.message_parts.specs.declared.dissecting.MessageKind.{MessageKind}
+use Rattle.message_parts.specs.declared.part.PartKind.{PartKind}
+use Rattle.message_parts.specs.declared.part.PartKind.TheVariants as kind
+use Rattle.message_parts.specs.FieldTitles.{Titles}
+use Rattle.message_parts.specs.Messages.{message_told}
+use Rattle.message_parts.specs.Naming.{kind_name}
 use Rattle.message_words.specs.Objects.{Digits, Listing, Member, Word, member, shown}
-use Rattle.message_words.specs.Parts.{PartSeen}
+use Rattle.message_parts.specs.Parts.{PartSeen}
 use Rattle.message_words.specs.Rows.{counted_with, meaning_in, names_in, value_in}
 
 -- a member that is left out where this text is empty

@@ -12,13 +12,13 @@ use Rattle.kept_records.specs.Books.{book_in}
 use Rattle.kept_records.specs.Journals.{journal_in}
 use Rattle.kept_records.specs.declared.fault.RecordFault.{RecordFault}
 use Rattle.kept_records.specs.declared.fault.RecordFault.TheVariants as fault
-use Rattle.message_words.specs.declared.dissecting.Carried.{Carried}
+use Rattle.message_parts.specs.declared.dissecting.Carried.{Carried}
 use Rattle.message_words.specs.declared.record_lines.Provider.{Provider}
-use Rattle.message_words.specs.AtRest.{is_book}
+use Rattle.message_parts.specs.AtRest.{is_book}
 use Rattle.message_words.specs.declared.sentences.TheConstants.{BOOK, JOURNAL, NO_RECORD, NO_RECORD_AT}
 use Rattle.message_words.specs.Facts.{Number, of_row, says_of}
 use Rattle.message_words.specs.FaultWords.{FaultTold, fault_said, told_at, told_of}
-use Rattle.message_words.specs.Meanings.{number_in}
+use Rattle.message_parts.specs.Numbers.{number_in}
 use Rattle.message_words.specs.Sayings.{Said}
 
 -- ---- what reads well

@@ -14,17 +14,17 @@ use Rattle.claim_profile.specs.Order.{placed_order}
 use Rattle.claim_profile.specs.Reject.{code_text}
 use Rattle.claim_profile.specs.Tally.{Tally, Absent, Single, Many}
 use Rattle.claim_profile.specs.Transaction.{transaction_code}
-use Rattle.message_words.specs.declared.findings.Uncarried.{Uncarried}
-use Rattle.message_words.specs.declared.findings.Uncarried.TheVariants.{TooLong, OtherVersion, OtherCode}
-use Rattle.message_words.specs.declared.names.FieldName.{FieldName}
-use Rattle.message_words.specs.declared.names.FieldName.TheVariants as field
+use Rattle.message_parts.specs.declared.findings.Uncarried.{Uncarried}
+use Rattle.message_parts.specs.declared.findings.Uncarried.TheVariants.{TooLong, OtherVersion, OtherCode}
+use Rattle.message_parts.specs.declared.names.FieldName.{FieldName}
+use Rattle.message_parts.specs.declared.names.FieldName.TheVariants as field
 use Rattle.message_words.specs.declared.sentences.TheConstants.{BILLING, NOT_CARRIED, REJECTED_NOTHING, REJECTED_ONE, REJECTED_SEVERAL, REVERSAL, REVERSAL_OF_ONE}
-use Rattle.message_words.specs.Causes.{CauseSeen}
+use Rattle.message_parts.specs.Causes.{CauseSeen}
 use Rattle.claim_profile.specs.CodeNames.{code_name}
 use Rattle.message_words.specs.Facts.{Fact, Number, Dollars, Units, Words, Printed, Either, of_row, says_of, Sentence}
 use Rattle.message_words.specs.FaultWords.{framing_said}
-use Rattle.message_words.specs.FieldTitles.{titles_of}
-use Rattle.message_words.specs.Findings.{FindingSeen, NotCarried, Asks, Rejected, request_findings}
+use Rattle.message_parts.specs.FieldTitles.{titles_of}
+use Rattle.message_parts.specs.Findings.{FindingSeen, NotCarried, Asks, Rejected, request_findings}
 use Rattle.message_words.specs.Sayings.{Said}
 use Rattle.message_words.specs.Wanted.{wanted_in}
 

@@ -3,18 +3,19 @@ use Rattle.std.specs.Prelude.{◌≡◌, ℕ, ◌+◌, ◌-◌, ◌^◌, min, ma
 use Rattle.std.specs.Fmt.{decimal}
 use Rattle.input_text.specs.Printing.{printed}
 use Rattle.overpunch.specs.Number.{number_text}
-use Rattle.message_words.specs.declared.names.FieldName.{FieldName}
+use Rattle.message_parts.specs.declared.names.FieldName.{FieldName}
 use Rattle.message_words.specs.declared.page.Page.{Page}
 use Rattle.message_words.specs.declared.page.Style.{Style}
 use Rattle.message_words.specs.declared.page.Style.TheVariants.{Lines, Json}
-use Rattle.message_words.specs.declared.part.PartKind.{PartKind}
-use Rattle.message_words.specs.declared.part.PartKind.TheVariants as kind
+use Rattle.message_parts.specs.declared.part.PartKind.{PartKind}
+use Rattle.message_parts.specs.declared.part.PartKind.TheVariants as kind
 use Rattle.message_words.specs.Encoded.{spaces, to_left, to_right, word_member, printed_member, number_member}
-use Rattle.message_words.specs.FieldTitles.{Titles, titles, titles_of}
+use Rattle.message_parts.specs.FieldTitles.{Titles, titles, titles_of}
 use Rattle.message_words.specs.Meanings.{meaning_of, mark_meaning}
-use Rattle.message_words.specs.Naming.{mark_names, is_length}
-use Rattle.message_words.specs.Parts.{PartSeen}
-use Rattle.message_words.specs.Unused.{segment_meaning, unused_field}
+use Rattle.message_parts.specs.Naming.{mark_names, is_length}
+use Rattle.message_parts.specs.Parts.{PartSeen}
+use Rattle.message_parts.specs.Unused.{unused_field}
+use Rattle.message_words.specs.Segments.{segment_meaning}
 
 -- ---- what a part is called, its value, and what that means
 

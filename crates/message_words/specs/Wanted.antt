@@ -2,8 +2,8 @@
 use Rattle.std.specs.Prelude.{ℕ, List, codes, Option, None, Some}
 use Rattle.claim_profile.specs.declared.transaction.TransactionCode.{TransactionCode}
 use Rattle.claim_profile.specs.declared.transaction.TransactionCode.TheVariants.{Billing, Reversal}
-use Rattle.message_words.specs.declared.names.FieldName.{FieldName}
-use Rattle.message_words.specs.declared.names.FieldName.TheVariants as field
+use Rattle.message_parts.specs.declared.names.FieldName.{FieldName}
+use Rattle.message_parts.specs.declared.names.FieldName.TheVariants as field
 
 -- a fill number, which a reversal may leave out
 abbrev pub wanted_fill : Option TransactionCode → List ℕ

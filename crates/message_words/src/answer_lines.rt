@@ -1,16 +1,9 @@
 //! What is found of an answer, as it is written.
 
-ghost use Rattle.std.specs.Prelude.{◌≡◌, ◌≢◌, ◌≤◌, ◌+◌, ◌++◌, [], ◌∷◌, codes, length};
+ghost use Rattle.std.specs.Prelude.{◌≡◌, ◌+◌, [], ◌∷◌, codes};
 ghost use Rattle.claim_profile.specs.Ruling.{answer_of};
 ghost use Rattle.claim_profile.specs.declared.answer_reading.AnswerFault.TheVariants as faults;
-ghost use Rattle.message_words.specs.AnswerWords.{
-  answer_fault_said,
-  answer_said,
-  answer_told,
-  read_said,
-  ruling_said,
-  rulings_said,
-};
+ghost use Rattle.message_words.specs.AnswerWords.{answer_fault_said, answer_said, answer_told, read_said, rulings_said};
 ghost use Rattle.message_words.specs.FaultWords.{told_seen};
 ghost use Rattle.message_words.specs.Sayings.{Finds};
 

@@ -1,18 +1,16 @@
 //! Why a transaction is rejected, as it is told.
 
 ghost use Rattle.std.specs.Prelude.{◌≡◌, [], ◌∷◌};
-ghost use Rattle.message_words.specs.Causes.{code_for};
+ghost use Rattle.message_parts.specs.Causes.{code_for};
 ghost use Rattle.message_words.specs.Facts.{fact_seen, given_row};
-ghost use Rattle.message_words.specs.Found.{found_seen};
+ghost use Rattle.message_parts.specs.Found.{found_seen};
 ghost use Rattle.message_words.specs.RequestWords.{beyond, rejected, told_said};
 ghost use Rattle.message_words.specs.Sayings.{Finds};
 
-use crate::causes::code_for;
 use crate::facts::Fact;
 use crate::finding_page::FindingPage;
-use crate::found::Found;
-use crate::names::FieldName;
 use crate::sentences::{REJECTED_NOTHING, REJECTED_ONE, REJECTED_SEVERAL, Sentence};
+use message_parts::{FieldName, Found, code_for};
 
 /// A cause as it is told, but for what stands in its field: what is wanted there, and whether an answer tells it.
 #[derive(Clone, Copy)]

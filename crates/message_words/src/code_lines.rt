@@ -1,6 +1,6 @@
 //! Reject codes one after the other, as they are told.
 
-ghost use Rattle.std.specs.Prelude.{◌≡◌, ◌++◌, [], codes};
+ghost use Rattle.std.specs.Prelude.{◌++◌, [], codes};
 ghost use Rattle.claim_profile.specs.Reject.{code_text};
 ghost use Rattle.message_words.specs.Encoded.{json_letters, json_string};
 ghost use Rattle.message_words.specs.Facts.{named_code, named_codes, plain_codes};

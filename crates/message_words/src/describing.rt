@@ -3,17 +3,13 @@
 ghost use Rattle.std.specs.Prelude.{◌≡◌, [], ◌∷◌, false, true, map, None};
 ghost use Rattle.message_words.specs.AllFound.{FindsAll, FindsGroups, carried_said, first_said, group_of, place_told};
 ghost use Rattle.message_words.specs.Described.{description, is_refused};
-ghost use Rattle.message_words.specs.Parts.{part_seen};
+ghost use Rattle.message_parts.specs.Parts.{part_seen};
 ghost use Rattle.message_words.specs.Rows.{AddsRows};
 ghost use Rattle.message_words.specs.Sayings.{Finds};
 
-use crate::dissecting::{Carried, MessageKind, dissect};
 use crate::finding_page::FindingPage;
-use crate::layout::Form;
 use crate::page::Page;
-use crate::part::Part;
-use crate::part_rows::behind;
-use crate::transmissions::front_of;
+use message_parts::{Carried, Form, MessageKind, Part, behind, dissect, front_of};
 use std::alloc::Global;
 
 impl Page {

@@ -1,6 +1,6 @@
 //! Facts, and how sentences are filled with them.
 
-ghost use Rattle.std.specs.Prelude.{◌≡◌, ◌-◌, false, [], ◌∷◌, map, slice_get};
+ghost use Rattle.std.specs.Prelude.{◌-◌, false, [], ◌∷◌, map, slice_get};
 ghost use Rattle.memchr.specs.Find.{IsFirstByte, is_byte};
 ghost use Rattle.message_words.specs.Facts.{fact_at, fact_in, fact_of, fact_seen, filled, given_row, in_json, in_words, says_of};
 ghost use Rattle.message_words.specs.Sayings.{Finds};
@@ -9,12 +9,11 @@ ghost use Rattle.message_words.specs.Written.{Takes};
 use crate::code_lines::{put_codes_string, put_named_codes};
 use crate::finding_page::FindingPage;
 use crate::page::Style;
-use crate::part_rows::behind;
 use crate::sentences::Sentence;
 use crate::text::Text;
-use crate::transmissions::front_of;
 use claim_profile::Code;
 use memchr::memchr;
+use message_parts::{behind, front_of};
 
 /// A fact that a sentence tells.
 #[derive(Clone, Copy)]

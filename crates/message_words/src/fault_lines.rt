@@ -11,12 +11,11 @@ ghost use Rattle.message_words.specs.declared.sentences.TheConstants.{OTHER_COUN
 use crate::facts::{Fact, fill};
 use crate::finding_page::FindingPage;
 use crate::page::Style;
-use crate::part_rows::behind;
 use crate::sentences::{NOT_FRAMED, NOT_FRAMED_AT, OTHER_COUNT, Sentence};
 use crate::text::Text;
-use crate::transmissions::front_of;
 use d0_header::HeaderFault;
 use d0_segments::FramingFault;
+use message_parts::{behind, front_of};
 
 /// How many bytes before and after a fault are shown.
 const AROUND: usize = 24;

@@ -1,6 +1,6 @@
 //! Numbers as they are written for people.
 
-ghost use Rattle.std.specs.Prelude.{◌≡◌, ◌++◌, pos};
+ghost use Rattle.std.specs.Prelude.{◌≡◌, ◌++◌};
 ghost use Rattle.std.specs.Fmt.{decimal};
 ghost use Rattle.message_words.specs.Figures.{dollars, last_digit, minus, point_three, point_two, units};
 ghost use Rattle.message_words.specs.Written.{Takes};

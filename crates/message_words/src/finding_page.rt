@@ -1,6 +1,6 @@
 //! What is found of a message, as it is written.
 
-ghost use Rattle.std.specs.Prelude.{◌≡◌, [], ◌∷◌, ◌++◌, ◌||◌, false, true, None, Some};
+ghost use Rattle.std.specs.Prelude.{◌≡◌, [], ◌||◌, false, true, None, Some};
 ghost use Rattle.message_words.specs.Sayings.{Begins, finding_head, finding_name, finding_object, finding_text, within_member, within_words};
 ghost use Rattle.message_words.specs.Written.{Takes};
 ghost use Rattle.message_words.specs.declared.page.Style.TheVariants as styled;

@@ -24,11 +24,9 @@ ghost use Rattle.message_words.specs.Meanings.{
 ghost use Rattle.message_words.specs.Written.{Takes};
 
 use crate::dates::put_date;
-use crate::marks::Mark;
-use crate::names::FieldName;
-use crate::records::number_of;
 use crate::text::Text;
 use claim_profile::{Auth, Code, TransactionCode, trimmed};
+use message_parts::{FieldName, Mark, number_of};
 use overpunch::{Amount, AmountFault, NumberFault, read_number};
 
 /// Appends what the value of a field means; nothing where the value says it itself.

@@ -1,19 +1,16 @@
 //! The description of one message, as lines of text or as an object of JSON.
 
-ghost use Rattle.std.specs.Prelude.{◌≡◌, ◌≤◌, ◌+◌, ◌++◌, ◌||◌, ◌∷◌, false, true, [], ◌-◌, length, take, drop, min, if◌then◌else◌};
+ghost use Rattle.std.specs.Prelude.{◌≡◌, ◌≤◌, ◌+◌, ◌++◌, ◌||◌, false, true, [], ◌-◌, length, take, drop, min, if◌then◌else◌};
 ghost use Rattle.overpunch.specs.Number.{number_text};
 ghost use Rattle.message_words.specs.Described.{between_text, end_text, head_text, if_dropped, is_refused, line_and_kind, size_between};
-ghost use Rattle.message_words.specs.Encoded.{to_right};
-ghost use Rattle.message_words.specs.FieldTitles.{titles};
+ghost use Rattle.message_parts.specs.FieldTitles.{titles};
 ghost use Rattle.message_words.specs.Rows.{columns_text, comma, field_member, meaning_behind, meaning_member, name_member, place_member, row_line, row_object, row_text, value_members};
 ghost use Rattle.message_words.specs.declared.page.Style.TheVariants as style;
 ghost use Rattle.message_words.specs.Written.{Takes, unspelled_words};
 
-use crate::dissecting::MessageKind;
 use crate::finding_page::FindingPage;
-use crate::part_rows::behind;
 use crate::text::Text;
-use crate::transmissions::front_of;
+use message_parts::{MessageKind, behind, front_of};
 use overpunch::write_number;
 use std::alloc::Global;
 

@@ -1,24 +1,21 @@
 //! Parts as they are written.
 
 ghost use Rattle.std.specs.Prelude.{◌≡◌, ◌++◌, [], drop, codes, true, None};
-ghost use Rattle.message_words.specs.FieldTitles.{titles, titles_of, titles_seen};
+ghost use Rattle.message_parts.specs.FieldTitles.{titles, titles_of, titles_seen};
 ghost use Rattle.message_words.specs.Meanings.{mark_meaning, meaning_of};
-ghost use Rattle.message_words.specs.Naming.{is_length, mark_names};
-ghost use Rattle.message_words.specs.Parts.{part_seen};
+ghost use Rattle.message_parts.specs.Naming.{is_length, mark_names};
+ghost use Rattle.message_parts.specs.Parts.{part_seen};
 ghost use Rattle.message_words.specs.Rows.{Adds, AddsRow, comma, counted_anew, counted_with, field_meaning, field_names, group_text, id_in, names_or, one_more, unread_meaning, unused_words};
-ghost use Rattle.message_words.specs.Unused.{segment_meaning, unused_field};
+ghost use Rattle.message_parts.specs.Unused.{unused_field};
+ghost use Rattle.message_words.specs.Segments.{segment_meaning};
 ghost use Rattle.message_words.specs.Written.{Takes};
 ghost use Rattle.message_words.specs.declared.page.Style.TheVariants as styled;
 
-use crate::marks::Mark;
 use crate::meaning::{put_mark, put_meaning};
-use crate::names::{FieldName, Named};
 use crate::page::{Page, Row, Style, columns};
-use crate::part::{Part, PartKind};
 use crate::segments::segment_words;
 use crate::text::Text;
-use crate::transmissions::front_of;
-use crate::unused::unused_field;
+use message_parts::{FieldName, Mark, Named, Part, PartKind, behind, front_of, unused_field};
 
 impl Page {
     /// Writes a part.
@@ -240,11 +237,4 @@ fn put_group_object(out: &mut Text, place: usize, count: u64)
     out.word_member("name", b"transaction");
     out.number_member("transaction", count);
     out.put("}");
-}
-
-/// The bytes after this many; none where there are no more.
-pub(crate) fn behind(bytes: &[u8], count: usize) -> &[u8]
-    ensures { result.now ≡ drop count bytes.now }
-{
-    &bytes[count.min(bytes.len())..]
 }

@@ -26,15 +26,13 @@ ghost use Rattle.message_words.specs.RecordWords.{
 };
 ghost use Rattle.message_words.specs.Sayings.{Finds};
 
-use crate::dissecting::Carried;
 use crate::facts::Fact;
 use crate::fault_lines::Told;
 use crate::finding_page::FindingPage;
-use crate::part_rows::behind;
-use crate::records::{is_book, number_at};
 use crate::sentences::{BOOK, JOURNAL, NO_RECORD, NO_RECORD_AT};
 use d0_header::{RequestHeader, request_text_laws};
 use kept_records::{RecordFault, read_book, read_journal};
+use message_parts::{Carried, behind, is_book, number_at};
 use payer_book::{BookAtRest, BookSettings, PayerNo};
 use pharmacy_journal::{JournalAtRest, PharmacySettings};
 use std::alloc::{AllocError, Global};

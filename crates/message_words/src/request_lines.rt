@@ -3,8 +3,8 @@
 ghost use Rattle.std.specs.Prelude.{◌≡◌, ◌-◌, ◌<◌, [], ◌∷◌, length};
 ghost use Rattle.d0_segments.specs.FramedParts.{framed_parts};
 ghost use Rattle.claim_profile.specs.Order.{placed_order};
-ghost use Rattle.message_words.specs.Causes.{cause_seen};
-ghost use Rattle.message_words.specs.Findings.{finding_seen, findings_seen, request_findings};
+ghost use Rattle.message_parts.specs.Causes.{cause_seen};
+ghost use Rattle.message_parts.specs.Findings.{finding_seen, findings_seen, request_findings};
 ghost use Rattle.message_words.specs.RequestWords.{
   asked_said,
   cause_said,
@@ -20,17 +20,14 @@ ghost use Rattle.message_words.specs.RequestWords.{
 ghost use Rattle.message_words.specs.Sayings.{Finds};
 
 use crate::cause_lines::CauseTold;
-use crate::causes::Cause;
 use crate::facts::Fact;
 use crate::finding_page::FindingPage;
-use crate::findings::{Finding, Uncarried, findings_of};
-use crate::found::Found;
-use crate::names::FieldName;
 use crate::sentences::NOT_CARRIED;
 use crate::wanted::wanted_in;
 use claim_profile::{TransactionCode, order_at};
 use d0_header::RequestHeader;
 use d0_segments::{Framed, check_request};
+use message_parts::{Cause, FieldName, Finding, Found, Uncarried, findings_of};
 use std::alloc::Global;
 
 /// How many causes of a transaction an answer tells.
@@ -67,7 +64,7 @@ impl FindingPage {
         let mut last = 0usize;
         let mut left = TOLD;
         for finding in findings {
-            let transaction = finding.transaction();
+            let transaction = transaction_of(finding);
             let here = left_to_tell(last, transaction, left);
             self.request_finding(framed, finding, here > 0);
             last = transaction;
@@ -165,14 +162,12 @@ fn why_words(why: Uncarried) -> &'static str
     }
 }
 
-impl Finding<'_> {
-    /// The number of the transaction that it is about; 0 where it is about all.
-    fn transaction(&self) -> usize
-        ensures { result ≡ transaction_of (finding_seen self.now) }
-    {
-        match self {
-            Finding::NotCarried(_) => 0,
-            Finding::Asks(transaction) | Finding::Rejected(transaction, _) => *transaction,
-        }
+/// The number of the transaction that a finding is about; 0 where it is about all.
+fn transaction_of(finding: &Finding<'_>) -> usize
+    ensures { result ≡ transaction_of (finding_seen finding.now) }
+{
+    match finding {
+        Finding::NotCarried(_) => 0,
+        Finding::Asks(transaction) | Finding::Rejected(transaction, _) => *transaction,
     }
 }

@@ -1,7 +1,7 @@
 //! What a segment is about.
 
 ghost use Rattle.std.specs.Prelude.{◌≡◌};
-ghost use Rattle.message_words.specs.Unused.{segment_meaning, unused_segment};
+ghost use Rattle.message_words.specs.Segments.{segment_meaning, unused_segment};
 
 /// What a segment is about.
 pub(crate) fn segment_words(id: &[u8]) -> &'static str

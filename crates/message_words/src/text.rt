@@ -7,8 +7,8 @@ ghost use Rattle.input_text.specs.Printing.{printed, stands_for_itself};
 ghost use Rattle.message_words.specs.Written.{Takes, unspelled_line, unspelled_object};
 ghost use Rattle.message_words.specs.Encoded.{is_letter, json_letter, json_letters, json_string, member_key, number_member, printed_member, spaces, word_member};
 
-use crate::transmissions::front_of;
 use input_text::{put_decimal, put_printed};
+use message_parts::front_of;
 use std::alloc::{AllocError, Global};
 
 /// A text under construction.

@@ -3,8 +3,8 @@
 ghost use Rattle.std.specs.Prelude.{◌≡◌};
 ghost use Rattle.message_words.specs.Wanted.{wanted_fill, wanted_in};
 
-use crate::names::FieldName;
 use claim_profile::TransactionCode;
+use message_parts::FieldName;
 
 /// What a field of an order has to hold, under this transaction code. Of the fields of the last arm no transaction is
 /// rejected for what they hold; a field that is new has to be put among them, or gets words of its own.

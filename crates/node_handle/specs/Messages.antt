@@ -1,7 +1,7 @@
 -- Messages that are made in a buffer of a caller, or told of there.
 use Rattle.std.specs.Prelude.{◌≡◌, ◌⊎◌, ℕ, zero, suc, false, List, Ok, Err, Option, Some, None}
 use Rattle.message_words.specs.Described.{description}
-use Rattle.message_words.specs.Naming.{kind_of}
+use Rattle.message_parts.specs.Naming.{kind_of}
 use Rattle.message_words.specs.declared.page.Style.{Style}
 use Rattle.message_words.specs.declared.page.Style.TheVariants.{Lines, Json}
 use Rattle.message_making.specs.declared.judging.WrongField.{WrongField}

@@ -2,12 +2,13 @@
 
 ghost use Rattle.std.specs.Prelude.{◌≡◌, false};
 ghost use Rattle.message_words.specs.Described.{description, is_refused};
-ghost use Rattle.message_words.specs.Naming.{kind_of};
+ghost use Rattle.message_parts.specs.Naming.{kind_of};
 ghost use Rattle.node_handle.specs.Messages.{Describes, style_of};
 
 use crate::reading::copy_out;
 use crate::refusal::Refusal;
-use message_words::{MessageKind, Page, Style};
+use message_parts::MessageKind;
+use message_words::{Page, Style};
 use std::alloc::Global;
 
 /// The style that a number asks for: lines by 0, else JSON.

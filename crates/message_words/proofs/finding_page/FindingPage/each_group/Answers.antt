@@ -1,6 +1,6 @@
 use Rattle.std.proofs.Common.{◌+◌, List, drop, get_or, map, sym, subst, arith}
 use Rattle.std.proofs.lemmas.List.{drop_more, drop_all}
-use Rattle.message_words.specs.declared.dissecting.Carried.{Carried}
+use Rattle.message_parts.specs.declared.dissecting.Carried.{Carried}
 use Rattle.message_words.specs.AllFound.{FindsGroups, group_of}
 use Rattle.message_words.proofs.AllFound.{groups_more, no_groups}
 use Rattle.message_words.proofs.finding_page.FindingPage.each_group.Goals as goal

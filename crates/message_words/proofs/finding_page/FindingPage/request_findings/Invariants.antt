@@ -1,7 +1,7 @@
 use Rattle.std.proofs.Common.{drop}
 use Rattle.d0_segments.specs.FramedParts.{framed_parts}
 use Rattle.message_words.specs.declared.finding_page.FindingPage.{FindingPage}
-use Rattle.message_words.specs.Findings.{findings_seen}
+use Rattle.message_parts.specs.Findings.{findings_seen}
 use Rattle.message_words.specs.RequestWords.{findings_said}
 use Rattle.message_words.specs.Sayings.{Finds}
 use Rattle.message_words.proofs.finding_page.FindingPage.request_findings.Given as goal

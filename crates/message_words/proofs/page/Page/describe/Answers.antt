@@ -1,6 +1,6 @@
 use Rattle.std.proofs.Common.{List, sym, ap, subst, ◌∙◌}
 use Rattle.std.proofs.lemmas.Bool.{false≢true}
-use Rattle.message_words.specs.declared.dissecting.Carried.{Carried}
+use Rattle.message_parts.specs.declared.dissecting.Carried.{Carried}
 use Rattle.message_words.specs.AllFound.{FindsAll}
 use Rattle.message_words.proofs.Rows.{described, note_taken}
 use Rattle.message_words.proofs.page.Page.describe.Goals as goal

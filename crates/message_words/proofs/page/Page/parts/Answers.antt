@@ -1,7 +1,7 @@
 use Rattle.std.proofs.Common.{◌+◌, List, map, drop, get_or, ap, ◌∙◌, arith}
 use Rattle.std.proofs.lemmas.List.{drop_more, drop_all}
-use Rattle.message_words.specs.declared.part.Part.{Part}
-use Rattle.message_words.specs.Parts.{part_seen}
+use Rattle.message_parts.specs.declared.part.Part.{Part}
+use Rattle.message_parts.specs.Parts.{part_seen}
 use Rattle.message_words.proofs.Rows.{row_more, rows_done}
 use Rattle.message_words.proofs.page.Page.parts.Goals as goal
 

@@ -1,5 +1,5 @@
 use Rattle.std.proofs.Common.{◌≡◌, drop, map}
-use Rattle.message_words.specs.Parts.{part_seen}
+use Rattle.message_parts.specs.Parts.{part_seen}
 use Rattle.message_words.proofs.Rows.{AddsUpTo}
 use Rattle.message_words.proofs.page.Page.parts.Given as goal
 

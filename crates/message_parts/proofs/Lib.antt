@@ -1,0 +1,13 @@
+pub mod Cutting
+pub mod Bytes
+pub mod Heads
+pub mod Bodies
+pub mod AtRest
+pub mod Wholes
+pub mod Counting
+pub mod Conditions
+pub mod CauseLaws
+pub mod NextFindings
+pub mod Framed
+pub mod RecordParts
+pub mod RecordLaws

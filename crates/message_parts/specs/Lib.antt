@@ -1,0 +1,15 @@
+pub mod Parts
+pub mod Known
+pub mod Steps
+pub mod Numbers
+pub mod AtRest
+pub mod Messages
+pub mod Standing
+pub mod Added
+pub mod Found
+pub mod Causes
+pub mod Findings
+pub mod Naming
+pub mod FieldTitles
+pub mod AnswerFields
+pub mod Unused

@@ -1,8 +1,0 @@
-use Rattle.message_words.proofs.Framed.{request, answer}
-use Rattle.message_words.proofs.laws.part_laws.Goals as goal
-
-pub returns-clause-request : goal.returns-clause-request
-returns-clause-request c = request
-
-pub returns-clause-answer : goal.returns-clause-answer
-returns-clause-answer c = answer

@@ -1,7 +1,0 @@
-use Rattle.std.proofs.Common.{◌≡◌, drop, map}
-use Rattle.message_words.specs.FieldTitles.{titles, named_in}
-use Rattle.message_words.proofs.unused.named_in.Given as goal
-
--- no field so far ends with the letters
-abbrev pub invariant-loop-called : goal.invariant-loop-called
-invariant-loop-called l = named_in (map (λ c. titles c.0.now c.1.now c.2.now) (drop l.called-index l.table)) l.letters ≡ named_in (map (λ c. titles c.0.now c.1.now c.2.now) l.table) l.letters
