@@ -2,10 +2,8 @@
 
 ghost use Rattle.std.specs.Prelude.{◌≡◌, List, true, IfOk, OnOk};
 ghost use Rattle.message_parts.specs.AtRest.{
-  book_rows,
   book_told,
   each_told,
-  head_told,
   product_told,
   row_told,
   short_length,
@@ -43,19 +41,9 @@ pub(crate) fn cut_book(
 {
     let products = count_at(cutter.left(), 21);
     let rows = count_at(cutter.left(), 25);
-    cut_book_head(cutter)?;
+    cut_marks(cutter, BOOK.as_slice())?;
     cut_products(cutter, products)?;
     cut_rows(cutter, carried, rows)
-}
-
-/// Cuts the head of a book, as far as the bytes reach.
-#[tactic(auto, unfolding(crate::specs::AtRest::book_rows))]
-fn cut_book_head(cutter: &mut Cutter<'_>) -> Result<(), AllocError>
-    ensures whole { cutter.new.whole ≡ cutter.old.whole }
-    ensures told { OnOk result ((carried : List Carried)
-        → Tells (head_told book_rows) true cutter.old cutter.new carried carried) }
-{
-    cut_marks(cutter, BOOK.as_slice())
 }
 
 /// Cuts this many products of a plan, as far as the bytes have them.

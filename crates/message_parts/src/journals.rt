@@ -7,10 +7,7 @@ ghost use Rattle.message_parts.specs.AtRest.{
   flag_told,
   flagged_told,
   has_rule,
-  head_told,
-  journal_rows,
   journal_told,
-  rule_rows,
   rule_told,
   ruled_told,
   stray_told,
@@ -55,7 +52,7 @@ pub(crate) fn cut_journal(
 {
     let count = count_at(cutter.left(), 5);
     let ruled = has_rule(cutter.left());
-    cut_journal_head(cutter)?;
+    cut_marks(cutter, JOURNAL.as_slice())?;
     cut_ruled(cutter, ruled)?;
     cut_entries(cutter, carried, count)
 }
@@ -68,16 +65,6 @@ fn has_rule(bytes: &[u8]) -> bool
         [_, _, version, ..] => *version == 3,
         _ => false,
     }
-}
-
-/// Cuts the head of a journal, as far as the bytes reach.
-#[tactic(auto, unfolding(crate::specs::AtRest::journal_rows))]
-fn cut_journal_head(cutter: &mut Cutter<'_>) -> Result<(), AllocError>
-    ensures whole { cutter.new.whole ≡ cutter.old.whole }
-    ensures told { OnOk result ((carried : List Carried)
-        → Tells (head_told journal_rows) true cutter.old cutter.new carried carried) }
-{
-    cut_marks(cutter, JOURNAL.as_slice())
 }
 
 /// Cuts the rule of a journal, where it has one.
@@ -96,7 +83,7 @@ fn cut_rule(cutter: &mut Cutter<'_>) -> Result<(), AllocError>
         → Tells rule_told true cutter.old cutter.new carried carried) }
 {
     let count = switch_count(cutter.left());
-    cut_rule_head(cutter)?;
+    cut_marks(cutter, RULE.as_slice())?;
     cut_switches(cutter, count)
 }
 
@@ -108,16 +95,6 @@ fn switch_count(bytes: &[u8]) -> u16
         Some((count, _)) => count,
         None => 0,
     }
-}
-
-/// Cuts what a rule begins with, as far as the bytes reach.
-#[tactic(auto, unfolding(crate::specs::AtRest::rule_rows))]
-fn cut_rule_head(cutter: &mut Cutter<'_>) -> Result<(), AllocError>
-    ensures whole { cutter.new.whole ≡ cutter.old.whole }
-    ensures told { OnOk result ((carried : List Carried)
-        → Tells (head_told rule_rows) true cutter.old cutter.new carried carried) }
-{
-    cut_marks(cutter, RULE.as_slice())
 }
 
 /// Cuts this many numbers of switches, as far as the bytes have them.
