@@ -5,7 +5,8 @@ use Rattle.std.specs.List.{list_any}
 use Rattle.std.proofs.lemmas.Bool.{false≢true, ne_eqb}
 use Rattle.replaced_files.specs.declared.replacing.Fate.{Fate}
 use Rattle.replaced_files.specs.declared.replacing.Fate.TheVariants.{Stays, Stands, Becomes}
-use Rattle.replaced_files.specs.Deeds.{Deed, IsFollowed, all_done, Copied, Exchanged, SyncedNames}
+use Rattle.replaced_files.specs.Steps.{IsFollowed, all_done}
+use Rattle.replaced_files.specs.Deeds.{Deed, Copied, Exchanged, SyncedNames}
 use Rattle.replaced_files.specs.Plans.{plan_at, plan_from, replacing_plan, stays}
 use Rattle.replaced_files.specs.Deaths.{Left, untouched, left, copied, exchanged, synced, new_bytes, new_bytes_of, CopyStands, IsOldOr}
 use Rattle.replaced_files.proofs.Following.{at_each_moment, done_is_followed, which_part}

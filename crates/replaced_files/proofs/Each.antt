@@ -4,7 +4,8 @@ use Rattle.std.specs.Prelude.{if◌then◌else◌}
 use Rattle.std.specs.List.{list_any}
 use Rattle.std.proofs.lemmas.List.{at_drop_more}
 use Rattle.replaced_files.specs.declared.replacing.Fate.{Fate}
-use Rattle.replaced_files.specs.Deeds.{Deed, Plan, IsFollowed, all_done}
+use Rattle.replaced_files.specs.Steps.{Plan, IsFollowed, all_done}
+use Rattle.replaced_files.specs.Deeds.{Deed}
 use Rattle.replaced_files.specs.Plans.{plan_at, plan_from, replacing_plan, stays}
 use Rattle.replaced_files.proofs.Following.{first_part, second_part, both_parts}
 
@@ -24,14 +25,14 @@ pub behind_next : (fates : List Fate) (place : ℕ) (fate : Fate) (old now next 
 behind_next fates place fate old now next within is b e =
     let plan = plan_next fates place fate within is in
     record {
-      followed = λ new f. b.followed new (subst (λ (p : Plan). IsFollowed p now new) (sym plan) (second_part (plan_at place fate) (plan_from (place + 1) (drop (place + 1) fates)) now new (subst (λ (d : List Deed). IsFollowed (plan_from (place + 1) (drop (place + 1) fates)) d new) e f)));
-      done = ap (all_done (plan_from (place + 1) (drop (place + 1) fates))) e ∙ (sym (both_parts (plan_at place fate) (plan_from (place + 1) (drop (place + 1) fates)) now) ∙ (ap (λ (p : Plan). all_done p now) (sym plan) ∙ b.done));
+      followed = λ new f. b.followed new (subst (λ (p : Plan Deed). IsFollowed p now new) (sym plan) (second_part (plan_at place fate) (plan_from (place + 1) (drop (place + 1) fates)) now new (subst (λ (d : List Deed). IsFollowed (plan_from (place + 1) (drop (place + 1) fates)) d new) e f)));
+      done = ap (all_done (plan_from (place + 1) (drop (place + 1) fates))) e ∙ (sym (both_parts (plan_at place fate) (plan_from (place + 1) (drop (place + 1) fates)) now) ∙ (ap (λ (p : Plan Deed). all_done p now) (sym plan) ∙ b.done));
     }
 
 pub broken_off : (fates : List Fate) (place : ℕ) (fate : Fate) (old now new : List Deed) → place < length fates → fate ≡ get_or fates place fate → IsBehind fates place old now
     → IsFollowed (plan_at place fate) now new → IsFollowed (plan_from 0 fates) old new
 broken_off fates place fate old now new within is b f =
-    b.followed new (subst (λ (p : Plan). IsFollowed p now new) (sym (plan_next fates place fate within is)) (first_part (plan_at place fate) (plan_from (place + 1) (drop (place + 1) fates)) now new f))
+    b.followed new (subst (λ (p : Plan Deed). IsFollowed p now new) (sym (plan_next fates place fate within is)) (first_part (plan_at place fate) (plan_from (place + 1) (drop (place + 1) fates)) now new f))
 
 -- where none stays, all are replaced one after the other
 pub none_stays : (fates : List Fate) → list_any stays fates ≡ false → plan_from 0 fates ≡ replacing_plan fates
@@ -41,10 +42,10 @@ none_stays fates e = by_test (list_any stays fates) e
     by_test some_stay e = rw e refl
 
 pub all_followed : (fates : List Fate) (old new : List Deed) → list_any stays fates ≡ false → IsFollowed (plan_from 0 fates) old new → IsFollowed (replacing_plan fates) old new
-all_followed fates old new e f = subst (λ (p : Plan). IsFollowed p old new) (none_stays fates e) f
+all_followed fates old new e f = subst (λ (p : Plan Deed). IsFollowed p old new) (none_stays fates e) f
 
 pub all_replaced : (fates : List Fate) (old new : List Deed) → list_any stays fates ≡ false → new ≡ all_done (plan_from 0 fates) old → new ≡ all_done (replacing_plan fates) old
-all_replaced fates old new e f = f ∙ ap (λ (p : Plan). all_done p old) (none_stays fates e)
+all_replaced fates old new e f = f ∙ ap (λ (p : Plan Deed). all_done p old) (none_stays fates e)
 
 pub nothing_done : (fates : List Fate) (old new : List Deed) → list_any stays fates ≡ true → new ≡ old → IsFollowed (replacing_plan fates) old new
 nothing_done fates old new e f = by_test (list_any stays fates) e

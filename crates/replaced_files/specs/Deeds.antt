@@ -1,5 +1,5 @@
--- What was asked of files, the newest first, and what it comes to.
-use Rattle.std.specs.Prelude.{◌≡◌, ◌⊎◌, ℕ, Bool, true, false, not, ◌&&◌, ◌==◌, List, [], ◌∷◌}
+-- What was asked of files, the newest first.
+use Rattle.std.specs.Prelude.{ℕ, Bool, false, not, ◌&&◌, ◌==◌, List}
 
 -- one call of the system for the file at a place, and whether it was done. A call that failed may have been done in part, or in the system's memory alone
 pub data Deed : Type 0 where
@@ -29,24 +29,3 @@ is_other's place (Taken other got) = (other == place) && not got
 is_other's place (Copied other bytes done) = false
 is_other's place (Exchanged other done) = false
 is_other's place (SyncedNames other done) = false
-
--- the newest deed is such
-abbrev pub newest : (Deed → Bool) → List Deed → Bool
-newest such [] = false
-newest such (deed ∷ before) = such deed
-
--- ---- plans
-
--- what is to be done, the first first: each step is the deed that it is, done or not
-abbrev pub Plan : Type 0
-Plan = List (Bool → Deed)
-
--- a plan is followed from here: nothing of it was done yet; or its first step failed, and nothing was done after it; or that was done, and so on
-abbrev pub IsFollowed : Plan → List Deed → List Deed → Type 0
-IsFollowed [] old new = new ≡ old
-IsFollowed (step ∷ more) old new = (new ≡ old) ⊎ ((new ≡ step false ∷ old) ⊎ IsFollowed more (step true ∷ old) new)
-
--- all of it was done
-abbrev pub all_done : Plan → List Deed → List Deed
-all_done [] old = old
-all_done (step ∷ more) old = all_done more (step true ∷ old)

@@ -7,7 +7,8 @@ use Rattle.replaced_files.specs.declared.fault.TakeFault.{TakeFault}
 use Rattle.replaced_files.specs.declared.fault.TakeFault.TheVariants as untaken
 use Rattle.replaced_files.specs.declared.fault.ReplaceFault.{ReplaceFault}
 use Rattle.replaced_files.specs.declared.fault.ReplaceFault.TheVariants as unreplaced
-use Rattle.replaced_files.specs.Deeds.{Deed, Plan, newest, fails_at, Failed, Taken, Copied, Exchanged, SyncedNames}
+use Rattle.replaced_files.specs.Steps.{Plan, newest}
+use Rattle.replaced_files.specs.Deeds.{Deed, fails_at, Failed, Taken, Copied, Exchanged, SyncedNames}
 
 -- ---- taking
 
@@ -30,21 +31,21 @@ stays Stands = false
 stays (Becomes bytes) = false
 
 -- the file at a place gets new bytes: they are on the disk before they have its name, and the name is before anything else is done
-abbrev pub exchanging : ℕ → List ℕ → Plan
+abbrev pub exchanging : ℕ → List ℕ → Plan Deed
 exchanging place bytes = Copied place bytes ∷ Exchanged place ∷ SyncedNames place ∷ []
 
-abbrev pub plan_at : ℕ → Fate → Plan
+abbrev pub plan_at : ℕ → Fate → Plan Deed
 plan_at place Stays = []
 plan_at place Stands = []
 plan_at place (Becomes bytes) = exchanging place bytes.items
 
 -- files from a place on, one after the other
-abbrev pub plan_from : ℕ → List Fate → Plan
+abbrev pub plan_from : ℕ → List Fate → Plan Deed
 plan_from place [] = []
 plan_from place (fate ∷ more) = plan_at place fate ++ plan_from (place + 1) more
 
 -- all of them, where none stays; else nothing is done
-abbrev pub replacing_plan : List Fate → Plan
+abbrev pub replacing_plan : List Fate → Plan Deed
 replacing_plan fates = if list_any stays fates then [] else plan_from 0 fates
 
 -- why files are not replaced is so: one of them stays, and nothing was done; or none does, and a call of the system failed for this one

@@ -2,7 +2,8 @@
 
 ghost use Rattle.std.specs.Prelude.{◌≡◌, List, ℕ};
 ghost use Rattle.replaced_files.specs.declared.replacing.Fate.{Fate};
-ghost use Rattle.replaced_files.specs.Deeds.{Deed, IsFollowed};
+ghost use Rattle.replaced_files.specs.Steps.{IsFollowed};
+ghost use Rattle.replaced_files.specs.Deeds.{Deed};
 ghost use Rattle.replaced_files.specs.Deaths.{IsOldOr, left, new_bytes, untouched};
 ghost use Rattle.replaced_files.specs.Plans.{replacing_plan};
 

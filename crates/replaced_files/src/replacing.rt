@@ -2,7 +2,8 @@
 
 ghost use Rattle.std.specs.Prelude.{◌≡◌, false, true, OnOk, OnErr, IfErr};
 ghost use Rattle.std.specs.List.{list_any};
-ghost use Rattle.replaced_files.specs.Deeds.{IsFollowed, all_done, fails_at, newest};
+ghost use Rattle.replaced_files.specs.Steps.{IsFollowed, all_done, newest};
+ghost use Rattle.replaced_files.specs.Deeds.{fails_at};
 ghost use Rattle.replaced_files.specs.Plans.{IsUnreplaced, exchanging, plan_at, plan_from, replacing_plan, stays};
 
 use crate::fault::ReplaceFault;
