@@ -40,7 +40,7 @@ elsewhere place other (Becomes bytes) old new apart f =
     let e2f : left place (Exchanged other false ∷ d1) ≡ l0 = skipped (other == place) (left place d1) (exchanged (left place d1) false) apart ∙ e1 in
     let e3 : left place d3 ≡ l0 = skipped (other == place) (left place d2) (synced (left place d2) true) apart ∙ e2 in
     let e3f : left place (SyncedNames other false ∷ d2) ≡ l0 = skipped (other == place) (left place d2) (synced (left place d2) false) apart ∙ e2 in
-    at_each_moment (λ (d : List Deed). left place d ≡ l0) (plan_at other (Becomes bytes)) old new (refl, (e1f, (e1, (e2f, (e2, (e3f, e3)))))) f
+    at_each_moment (λ (d : List Deed). left place d ≡ l0) (plan_at other (Becomes bytes)) old new (refl, e1f, (e1, e2f, (e2, e3f, e3))) f
 
 -- the file's own plan
 taken : (b : Bool) (l m : Left) → b ≡ true → cond b m l ≡ m
@@ -67,18 +67,11 @@ here place (Becomes bytes) old new before f =
     let whole : (l : Left) → l.copy ≡ Some bytes.items → P l = λ l e. inr (bytes.items, (refl, e)) in
     at_each_moment (λ (d : List Deed). IsFine (Some bytes.items) (left place d)) (plan_at place (Becomes bytes)) old new (
       subst P (sym before) (inl refl),
+      subst P (sym e1f) (inl refl),
       (
-        subst P (sym e1f) (inl refl),
-        (
-          subst P (sym e1) (inl refl),
-          (
-            subst P (sym e2f) (whole (exchanged l1 false) refl),
-            (
-              subst P (sym e2) (whole l2 refl),
-              (subst P (sym e3f) (whole (synced l2 false) refl), subst P (sym e3) (whole (synced l2 true) refl)),
-            ),
-          ),
-        ),
+        subst P (sym e1) (inl refl),
+        subst P (sym e2f) (whole (exchanged l1 false) refl),
+        (subst P (sym e2) (whole l2 refl), subst P (sym e3f) (whole (synced l2 false) refl), subst P (sym e3) (whole (synced l2 true) refl)),
       ),
     )
     f

@@ -38,10 +38,10 @@ which_part (step ∷ more) after old new (inr (inr f)) = within (which_part more
 -- something holds at each moment of a plan
 abbrev pub AtEachMoment : {D : Type 0} → (List D → Type 0) → Plan D → List D → Type 0
 AtEachMoment P [] old = P old
-AtEachMoment P (step ∷ more) old = P old × (P (step false ∷ old) × AtEachMoment P more (step true ∷ old))
+AtEachMoment P (step ∷ more) old = P old × P (step false ∷ old) × AtEachMoment P more (step true ∷ old)
 
 pub at_each_moment : {D : Type 0} (P : List D → Type 0) (plan : Plan D) (old new : List D) → AtEachMoment P plan old → IsFollowed plan old new → P new
 at_each_moment P [] old new m e = subst P (sym e) m
 at_each_moment P (step ∷ more) old new m (inl e) = subst P (sym e) m.0
-at_each_moment P (step ∷ more) old new m (inr (inl e)) = subst P (sym e) m.1.0
-at_each_moment P (step ∷ more) old new m (inr (inr f)) = at_each_moment P more (step true ∷ old) new m.1.1 f
+at_each_moment P (step ∷ more) old new m (inr (inl e)) = subst P (sym e) m.1
+at_each_moment P (step ∷ more) old new m (inr (inr f)) = at_each_moment P more (step true ∷ old) new m.2 f
