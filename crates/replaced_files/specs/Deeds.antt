@@ -21,11 +21,3 @@ fails_at place (Taken other got) = false
 fails_at place (Copied other bytes done) = (other == place) && not done
 fails_at place (Exchanged other done) = (other == place) && not done
 fails_at place (SyncedNames other done) = (other == place) && not done
-
--- another process has the file at this place
-abbrev pub is_other's : ℕ → Deed → Bool
-is_other's place (Failed other) = false
-is_other's place (Taken other got) = (other == place) && not got
-is_other's place (Copied other bytes done) = false
-is_other's place (Exchanged other done) = false
-is_other's place (SyncedNames other done) = false
