@@ -1,3 +1,4 @@
+pub mod Walking
 pub mod LooseValues
 pub mod PartValues
 pub mod Crosses

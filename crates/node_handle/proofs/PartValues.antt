@@ -1,22 +1,8 @@
--- The machine value of a part, and what its value is where there is one. Assumes nothing.
-use Rattle.std.proofs.Common.{◌≡◌, List, [], ◌∷◌, ◌++◌, T, refl, sym, ◌∙◌, subst, lit<}
-use seplogic.Ra.Ura.{Ura}
-use mir.Syntax.{ty_ptr, ty_struct, tcons, tnil, impl, dnil}
-use mir.Val.{Val, vstruct, vcons, vnil, of_list}
-use base.Logic.{ent, emp}
-use base.Fml.{Fml}
-use types.Logic.{Logic, sem}
-use denote.RawPtr.{Ptr, RawPtr, block_ptr, null_ptr, ptr_val}
-use denote.Shadow.{shadow, makes_shadow}
-use denote.Struct.Struct.{Struct}
-use Rattle.core.proofs.cell.Inside.{Good}
-use Rattle.core.proofs.alloc.Calls.{Al}
-use Rattle.std.specs.Prelude.{IsSome}
-use Rattle.std.specs.declared.option.Option.{Option}
-use Rattle.std.specs.declared.option.Option.TheVariants.{None, Some}
+-- The machine value of a part, what its value is where there is one, and that no thread has a key to it. Assumes nothing.
+use Rattle.node_handle.proofs.Walking.{◌≡◌, List, [], ◌∷◌, ◌++◌, T, refl, sym, ◌∙◌, subst, lit<, Ura, ty_ptr, ty_struct, tcons, tnil, impl, dnil, Val, vstruct, vcons, vnil, of_list, ent, emp, Fml, Logic, sem, Ptr, RawPtr, block_ptr, null_ptr, ptr_val, shadow, makes_shadow, Struct, Good, Al, IsSome, Option, None, Some, ghosts, bare, full_share, Keyless, lone, RattleType, IsSend, part_keyless, frees}
 use Rattle.std.specs.contracts.alloc.Global as heap_row
 use Rattle.std.proofs.alloc.Global.TheLaws as heap_laws
-use Rattle.std.specs.contracts.impls.GlobalAllocator.TheImpl.{ghosts}
+use Rattle.node_handle.specs.Erased.{heap, owns}
 
 abbrev pub part_val : Ptr → Val
 part_val p = vstruct (vcons (ptr_val p) vnil)
@@ -42,3 +28,9 @@ al = record { row = heap_row.the_row; laws = heap_laws.the_row_laws; g = ghosts;
 pub had : {X : Type 0} (o : Option X) → IsSome o → (d : X) × (o ≡ Some d)
 had None none = absurd (subst T (sym none) tt)
 had (Some d) some = (d, refl)
+
+-- what a part owns has no key where its value has none
+pub keyless : (R : RattleType) → IsSend R → (p : Ptr) (held : Option R.Denot) → Keyless (owns R p held)
+keyless R sends p None = tt
+keyless R sends null_ptr (Some d) = (tt, frees.frees heap (bare (lone R.mir)) null_ptr)
+keyless R sends (block_ptr b o) (Some d) = (part_keyless R sends full_share d b o, frees.frees heap (bare (lone R.mir)) (block_ptr b o))

@@ -1,5 +1,5 @@
 -- How bytes are cut into pieces, one after another.
-use Rattle.std.proofs.Common.{◌≡◌, ℕ, ◌+◌, ◌<◌, ◌≤◌, Bool, true, false, List, [], ◌∷◌, ◌++◌, length, take, drop, get_or, map, Option, Some, None, refl, sym, ap, ◌∙◌, append_assoc, append-nil}
+use Rattle.std.proofs.Common.{◌≡◌, ℕ, ◌+◌, ◌<◌, ◌≤◌, Bool, false, List, [], ◌∷◌, ◌++◌, length, take, drop, get_or, map, Option, Some, None, refl, sym, ap, ◌∙◌, append_assoc, append-nil}
 use Rattle.std.specs.Prelude.{nat_lt, if◌then◌else◌, MatchOption}
 use Rattle.std.specs.Option.{option_map}
 use Rattle.std.proofs.lemmas.List.{at_drop_more, drop_all, map-append}
@@ -16,9 +16,6 @@ moved before piece (Some more) = ap Some (append_assoc before (piece ∷ []) mor
 cut_one : (size : ℕ) (sizes bytes : List ℕ) → nat_lt (length bytes) size ≡ false → cut_at (size ∷ sizes) bytes ≡ option_map (λ (more : List (List ℕ)). take size bytes ∷ more) (cut_at sizes (drop size bytes))
 cut_one size sizes bytes fits = ap (λ (t : Bool). if t then None else option_map (λ (more : List (List ℕ)). take size bytes ∷ more) (cut_at sizes (drop size bytes))) fits
 
-cut_none : (size : ℕ) (sizes bytes : List ℕ) → nat_lt (length bytes) size ≡ true → cut_at (size ∷ sizes) bytes ≡ None
-cut_none size sizes bytes short = ap (λ (t : Bool). if t then None else option_map (λ (more : List (List ℕ)). take size bytes ∷ more) (cut_at sizes (drop size bytes))) short
-
 -- one piece more
 pub cuts_on : {A : Type 0} (see : A → List ℕ) (sizes : List ℕ) (i size : ℕ) (old new : List A) (piece : A) (rest more : List ℕ) (whole : Option (List (List ℕ))) → i < length sizes → size ≡ get_or sizes i size
     → nat_lt (length rest) size ≡ false → see piece ≡ take size rest → more ≡ drop size rest → new ≡ old ++ piece ∷ []
@@ -33,14 +30,6 @@ cuts_on {A} see sizes i size old new piece rest more whole lt is fits taken behi
     ∙ (ap (λ (b : List ℕ). joined (map see old) (option_map (λ (xs : List (List ℕ)). take size rest ∷ xs) (cut_at others b))) behind
     ∙ (sym (ap (joined (map see old)) (cut_one size others rest fits))
     ∙ (ap (λ (n : ℕ). left (n ∷ others)) is ∙ (sym (at_drop_more left sizes i size lt) ∙ so_far)))))))
-
--- too few bytes for the next piece
-pub cuts_short : {A : Type 0} (see : A → List ℕ) (sizes : List ℕ) (i size : ℕ) (old : List A) (rest : List ℕ) (whole : Option (List (List ℕ))) → i < length sizes → size ≡ get_or sizes i size
-    → nat_lt (length rest) size ≡ true → joined (map see old) (cut_at (drop i sizes) rest) ≡ whole → whole ≡ None
-cuts_short {A} see sizes i size old rest whole lt is short so_far =
-    let left = λ (sizes : List ℕ). joined (map see old) (cut_at sizes rest) in
-    let others = drop (i + 1) sizes in
-    sym so_far ∙ (at_drop_more left sizes i size lt ∙ (sym (ap (λ (n : ℕ). left (n ∷ others)) is) ∙ ap (joined (map see old)) (cut_none size others rest short)))
 
 -- no size more
 pub cuts_end : {A : Type 0} (see : A → List ℕ) (sizes : List ℕ) (i : ℕ) (old : List A) (rest : List ℕ) (whole : Option (List (List ℕ))) → length sizes ≤ i

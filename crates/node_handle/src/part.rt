@@ -21,7 +21,7 @@ pub struct Part {
 }
 
 impl Model for Part {
-    ghost also_owns = { λ p. owns p.at p.node };
+    ghost also_owns = { λ p. owns the_row p.at p.node };
 }
 
 impl Part {

@@ -5,7 +5,7 @@ ghost use Rattle.std.specs.declared.option.Option.{Option};
 ghost use Rattle.std.specs.declared.option.Option.TheVariants.{None, Some};
 ghost use Rattle.std.specs.Coded.{coded_option};
 ghost use Rattle.node_handle.specs.contracts.hosted_settings.HostedSettings.{the_row};
-ghost use Rattle.node_handle.specs.Erased.{owns_settings};
+ghost use Rattle.node_handle.specs.Erased.{owns};
 
 use crate::hosted_settings::HostedSettings;
 use crate::loose::Loose;
@@ -21,7 +21,7 @@ pub struct SettingsPart {
 }
 
 impl Model for SettingsPart {
-    ghost also_owns = { λ p. owns_settings p.at p.settings };
+    ghost also_owns = { λ p. owns the_row p.at p.settings };
 }
 
 impl SettingsPart {

@@ -1,42 +1,17 @@
 -- The box stays, its type goes. Assumes `Logic`.
-use Rattle.std.proofs.Common.{◌≡◌, List, [], ◌∷◌, ◌++◌, refl, sym, subst}
-use mir.Syntax.{Fn}
-use mir.Val.{Val, vptr}
-use base.Logic.{SProp, ent, emp, id⊢}
-use base.Fml.{ftrue}
-use prog.Wp.{WpFn}
-use contract.Monad.{fact, fact_i}
-use contract.Running.{tables}
-use types.Kit.{‵, raw, ◌⊛◌, ◌$◌, ◌∵◌, !, qed, by, move, keep, drop, use0, split, fsplit, fjoin, suffices}
-use types.Part.{agg, sub, whole}
-use types.Run.{stop, fld, of_opd, no_more, and_then, returns, enter}
-use types.ByLocal.{alloc_all, pass_all, free_all, look_at, get, get_in, sets}
-use denote.RattleType.{RattleType, owns}
-use denote.RawPtr.{block_ptr}
-use denote.Signature.{types_at}
-use denote.Steps.{nothing}
-use denote.Triple.Entry.{alive}
-use denote.Triple.Walked.{Stays, stay_dropped, walk_of}
-use Rattle.core.proofs.alloc.Calls.{Goes-blank}
-use Rattle.std.specs.declared.option.Option.{Option}
-use Rattle.std.specs.declared.option.Option.TheVariants.{Some}
-use Rattle.std.specs.contracts.impls.GlobalAllocator.TheImpl.{ghosts}
-use Rattle.std.specs.contracts.alloc.Global as heap_row
-use Rattle.std.proofs.alloc.Global.TheLaws as heap_laws
-use Rattle.std.proofs.raw_atomic.Walks.{proved_at, leaves}
+use Rattle.node_handle.proofs.Walking.{◌≡◌, List, [], ◌∷◌, ◌++◌, refl, sym, subst, Fn, Val, vptr, SProp, ent, emp, id⊢, ftrue, WpFn, fact, fact_i, tables, ‵, raw, ◌⊛◌, ◌$◌, ◌∵◌, !, qed, by, move, keep, drop, use0, split, fsplit, fjoin, suffices, agg, sub, whole, stop, fld, of_opd, no_more, and_then, returns, enter, alloc_all, pass_all, free_all, look_at, get, get_in, sets, RattleType, owns, block_ptr, types_at, nothing, alive, Stays, stay_dropped, walk_of, Goes-blank, Option, Some, ghosts, proved_at, leaves, plain}
 use Rattle.node_handle.proofs.LooseValues.{both, loose_good, loose_out}
-use Rattle.node_handle.proofs.PartValues.{part_val, part_own, part_made, part_typed}
+use Rattle.node_handle.proofs.PartValues.{part_val, part_own, part_made, part_typed, al}
 use Rattle.node_handle.specs.contracts.hosted_settings.HostedSettings.{the_row as settings_row}
 use Rattle.node_handle.specs.contracts.settings_part.SettingsPart.from_loose.{ended, clauses}
 use Rattle.node_handle.specs.contracts.settings_part.SettingsPart.from_loose.Key.{name as #self}
 use Rattle.node_handle.proofs.settings_part.SettingsPart.from_loose.Statement.{statement}
 use Rattle.node_handle.proofs.settings_part.SettingsPart.from_loose.Code as code
-use denote.Signature.{plain}
 use Rattle.node_handle.specs.contracts.loose.Loose as loose
 
 pub from_loose_spec : {M : Type 1} → statement M
 from_loose_spec 𝓤 𝓛 𝓜 𝓡 wired =
-    let H = 𝓛.H in let c = clauses 𝓛 𝓜.mem 𝓡.returns in let fn : Fn = code.function in let R : RattleType = settings_row in let Z : RattleType = heap_row.the_row in let LZ = heap_laws.the_row_laws in
+    let H = 𝓛.H in let c = clauses 𝓛 𝓜.mem 𝓡.returns in let fn : Fn = code.function in let R : RattleType = settings_row in let Z : RattleType = al.row in let LZ = al.laws in
     let stays : Stays ended.signature.params ended.kept = (stay_dropped (plain (λ _. loose.the_row R Z ghosts)) ended.kept.0, tt) in
     let C = (tables 𝓤 H 𝓜 𝓡 𝓡.env).C in let Λ = (tables 𝓤 H 𝓜 𝓡 𝓡.env).Λ in
     proved_at 𝓛 ended stays c 𝓜 𝓡 (Goes-blank 𝓛 0 (plain (λ _. loose.the_row R Z ghosts)) ended.kept.0 (λ κs x f. tt), tt) #self fn (code.unfolded 𝓤 H 𝓜 𝓡 wired) (λ z are.

@@ -1,36 +1,7 @@
 -- The box has its type again. Assumes `Logic`.
-use Rattle.std.proofs.Common.{◌≡◌, List, [], ◌∷◌, ◌++◌, refl, sym, ap, ◌∙◌, subst}
-use mir.Syntax.{Fn}
-use mir.Raw.{raw as bare}
-use mir.Val.{Val, vptr}
-use base.Logic.{SProp, ent, emp, never, id⊢, fst∗}
-use prog.Wp.{WpFn}
-use contract.Monad.{fact, fact_i}
-use contract.Running.{tables}
-use types.Logic.{sem}
-use types.Kit.{‵, raw, ◌⊛◌, ◌$◌, ◌∵◌, !, qed, by, move, keep, drop, use0, split, fsplit, fsplit3, fjoin, rewrite, suffices}
-use types.Part.{agg, sub, whole}
-use types.Run.{stop, fld, of_opd, no_more, and_then, returns, enter}
-use types.ByLocal.{alloc_all, pass_all, free_all, look_at, get, get_in, sets}
-use denote.Memory.{lone}
-use denote.RattleType.{RattleType, owns}
-use denote.RawPtr.{Ptr, block_ptr, null_ptr, in_a_block}
-use denote.Signature.{plain, types_at}
-use denote.Steps.{nothing, heard}
-use denote.Triple.Entry.{alive}
-use denote.Triple.Walked.{Stays, stay_dropped, walk_of}
-use Rattle.core.proofs.alloc.Calls.{Goes-blank, handle_tells}
-use Rattle.std.specs.Prelude.{IsSome}
-use Rattle.std.specs.declared.option.Option.{Option}
-use Rattle.std.specs.declared.option.Option.TheVariants.{Some}
-use Rattle.std.specs.contracts.impls.GlobalAllocator.TheImpl.{ghosts}
-use Rattle.std.specs.contracts.alloc.Global as heap_row
-use Rattle.std.proofs.alloc.Global.TheLaws as heap_laws
-use Rattle.std.proofs.raw_atomic.Walks.{proved_at, leaves}
-use Rattle.std_alloc.specs.Box.Ownership.{box_owns}
+use Rattle.node_handle.proofs.Walking.{◌≡◌, List, [], ◌∷◌, ◌++◌, refl, sym, ap, ◌∙◌, subst, Fn, bare, Val, vptr, SProp, ent, emp, never, id⊢, fst∗, WpFn, fact, fact_i, tables, sem, ‵, raw, ◌⊛◌, ◌$◌, ◌∵◌, !, qed, by, move, keep, drop, use0, split, fsplit, fsplit3, fjoin, rewrite, suffices, agg, sub, whole, stop, fld, of_opd, no_more, and_then, returns, enter, alloc_all, pass_all, free_all, look_at, get, get_in, sets, lone, RattleType, owns, Ptr, block_ptr, null_ptr, in_a_block, plain, types_at, nothing, heard, alive, Stays, stay_dropped, walk_of, Goes-blank, handle_tells, IsSome, Option, Some, ghosts, proved_at, leaves, box_owns}
 use Rattle.node_handle.proofs.LooseValues.{both, loose_good, loose_in}
-use Rattle.node_handle.specs.Erased as erased
-use Rattle.node_handle.specs.Erased.{heap}
+use Rattle.node_handle.specs.Erased.{heap, owns as part_owns}
 use Rattle.node_handle.proofs.PartValues.{part_val, part_told, part_typed, al, had}
 use Rattle.node_handle.specs.contracts.hosted_settings.HostedSettings.{the_row as settings_row}
 use Rattle.node_handle.specs.contracts.settings_part.SettingsPart as part
@@ -41,7 +12,7 @@ use Rattle.node_handle.proofs.settings_part.SettingsPart.into_loose.Code as code
 
 pub into_loose_spec : {M : Type 1} → statement M
 into_loose_spec 𝓤 𝓛 𝓜 𝓡 wired =
-    let H = 𝓛.H in let c = clauses 𝓛 𝓜.mem 𝓡.returns in let fn : Fn = code.function in let R : RattleType = settings_row in let Z : RattleType = heap_row.the_row in let LZ = heap_laws.the_row_laws in
+    let H = 𝓛.H in let c = clauses 𝓛 𝓜.mem 𝓡.returns in let fn : Fn = code.function in let R : RattleType = settings_row in let Z : RattleType = al.row in let LZ = al.laws in
     let stays : Stays ended.signature.params ended.kept = (stay_dropped (plain (λ _. part.the_row)) ended.kept.0, (stay_dropped (plain (λ _. Z)) ended.kept.1.0, tt)) in
     let C = (tables 𝓤 H 𝓜 𝓡 𝓡.env).C in let Λ = (tables 𝓤 H 𝓜 𝓡 𝓡.env).Λ in
     proved_at 𝓛 ended stays c 𝓜 𝓡 (Goes-blank 𝓛 0 (plain (λ _. part.the_row)) ended.kept.0 (λ κs x f. tt), (Goes-blank 𝓛 0 (plain (λ _. Z)) ended.kept.1.0 (λ κs x f. tt), tt)) #self fn (code.unfolded 𝓤 H 𝓜 𝓡 wired) (λ z are.
@@ -49,7 +20,7 @@ into_loose_spec 𝓤 𝓛 𝓜 𝓡 wired =
     let told = part_told x.at z.0.4.0 are.0.0 in
     qed 𝓛 ((raw (alive 𝓛 ended.signature z.0.0 z.0.1) ⊛ ‵ (owns (types_at ended.signature.params z.0.0) z.0.3 z.0.4)) ∷ raw (fact 𝓤 (IsSome x.settings)) ∷ []) ∵ move ! (1 ∷ []) $ heard ! (IsSome x.settings) (λ some.
     let d = (had x.settings some).0 in let is : x.settings ≡ Some d = (had x.settings some).1 in
-    split ! $ move ! (1 ∷ []) $ fsplit3 ! $ fsplit ! $ drop ! $ rewrite ! 0 (λ (t : Option R.Denot). ‵ (erased.owns_settings x.at t)) is refl $
+    split ! $ move ! (1 ∷ []) $ fsplit3 ! $ fsplit ! $ drop ! $ rewrite ! 0 (λ (t : Option R.Denot). ‵ (part_owns R x.at t)) is refl $
     in_a_block ! x.at (λ p. box_owns (ghosts.dealloc_token heap) R p d) (fst∗ 𝓤 (never 𝓤) (sem 𝓛 (ghosts.dealloc_token heap (bare (lone R.mir)) null_ptr))) (λ b o e.
     move ! (1 ∷ []) $ handle_tells al ! a z.0.4.1.0 (λ h eh fits. let w : Val = part_val (block_ptr b o) in
     let are_two : z.0.4.0 ++ (z.0.4.1.0 ++ []) ≡ w ∷ h ∷ [] = (λ i. told i ++ (eh i ++ [])) ∙ ap (λ (p : Ptr). part_val p ∷ h ∷ []) e in

@@ -1,24 +1,5 @@
 -- A part of nothing owns nothing. Assumes `Logic`.
-use Rattle.std.proofs.Common.{◌≡◌, [], ◌∷◌, refl}
-use mir.Syntax.{Fn}
-use mir.Val.{Val}
-use base.Logic.{SProp, emp}
-use base.Fml.{ftrue}
-use contract.Monad.{fact, fact_i}
-use contract.Running.{tables}
-use types.Kit.{‵, raw, ◌⊛◌, ◌$◌, ◌∵◌, !, qed, by, move, drop, use0, split, fjoin}
-use types.Part.{agg}
-use types.Run.{lit, no_more, and_then, returns, enter}
-use types.ByLocal.{alloc_all, pass_all, free_all, look_at, sets}
-use denote.RattleType.{owns}
-use denote.RawPtr.{null_ptr}
-use denote.Signature.{types_at}
-use denote.Steps.{nothing}
-use denote.Triple.Entry.{alive}
-use denote.Triple.Walked.{Stays, walk_of}
-use Rattle.std.specs.declared.option.Option.{Option}
-use Rattle.std.specs.declared.option.Option.TheVariants.{None}
-use Rattle.std.proofs.raw_atomic.Walks.{proved_at, leaves}
+use Rattle.node_handle.proofs.Walking.{◌≡◌, [], ◌∷◌, refl, Fn, Val, SProp, emp, ftrue, fact, fact_i, tables, ‵, raw, ◌⊛◌, ◌$◌, ◌∵◌, !, qed, by, move, drop, use0, split, fjoin, agg, lit, no_more, and_then, returns, enter, alloc_all, pass_all, free_all, look_at, sets, owns, null_ptr, types_at, nothing, alive, Stays, walk_of, Option, None, proved_at, leaves}
 use Rattle.node_handle.proofs.PartValues.{part_val, part_own, part_made, part_typed}
 use Rattle.node_handle.specs.contracts.hosted_settings.HostedSettings.{the_row as settings_row}
 use Rattle.node_handle.specs.contracts.settings_part.SettingsPart.of_nothing.{ended, clauses}
