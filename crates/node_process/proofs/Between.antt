@@ -16,7 +16,7 @@ use Rattle.node_service.proofs.Lines.{bare_append}
 use Rattle.node_process.specs.Acts.{Act, Found, Unread, Cut, Append, Sync, Say, Hear, Unheard, file, kept, said, heard}
 use Rattle.node_process.specs.Heard.{whole_lines}
 use Rattle.node_process.specs.Safe.{IsStartOf, GoesWell, Whose}
-use Rattle.node_process.specs.Histories.{Happening, acts_of, left_of, file_or, file_of, on_disk, digest_of, IsAlive, IsToldBy, AreAskedIn}
+use Rattle.node_process.specs.Histories.{Happening, Does, acts_of, left_of, file_or, file_of, on_disk, digest_of, IsAlive, IsToldBy, AreAskedIn}
 use Rattle.node_process.proofs.Bare.{HasKept, ReadsKept}
 use Rattle.node_process.proofs.Left.{IsTornOf, torn_fits, torn_reads, front_fits}
 use Rattle.node_process.proofs.Waking.{Lives}
@@ -60,6 +60,28 @@ inner_as whose begun h p q i a b =
       told = subst (λ (x : List Logged). IsToldBy whose.node x (said (acts_of h))) (sym a) i.told;
       second = i.second;
       stands = i.stands;
+    }
+
+-- the same after an act that leaves the file, the disk and what is kept as they are
+pub inner_still : (whose : Whose) (begun : List ℕ) (h : List Happening) (p : Process) → IsInner whose begun h p → (act : Act) → file_of begun (Does act ∷ h) ≡ file_of begun h → on_disk begun (Does act ∷ h) ≡ on_disk begun h → kept (act ∷ acts_of h) ≡ kept (acts_of h)
+    → IsToldBy whose.node p.synced (said (act ∷ acts_of h)) → IsInner whose begun (Does act ∷ h) p
+inner_still whose begun h p i act has lies keeps told =
+    record {
+      synced = i.synced;
+      unsynced = i.unsynced;
+      synced_are = i.synced_are;
+      unsynced_are = i.unsynced_are;
+      disk = subst (λ (b : List ℕ). HasKept (digest_of whose begun) whose.node b i.synced) (sym lies) i.disk;
+      under = subst (λ (b : List ℕ). IsStartOf b (file_of begun (Does act ∷ h))) (sym lies) (subst (IsStartOf (on_disk begun h)) (sym has) i.under);
+      lies = subst (λ (b : List ℕ). IsTornOf (digest_of whose begun) whose.node b (i.synced ++ i.unsynced)) (sym has) i.lies;
+      first = i.first;
+      more = i.more;
+      goes = i.goes;
+      was = i.was;
+      keeps = subst (λ (b : List ℕ). (kept (act ∷ acts_of h) ≡ []) ⊎ (kept (act ∷ acts_of h) ≡ b)) (sym lies) (subst (λ (b : List ℕ). (b ≡ []) ⊎ (b ≡ on_disk begun h)) (sym keeps) i.keeps);
+      told = told;
+      second = i.second;
+      stands = subst (λ (b : List ℕ). (digest_of whose begun ≡ turned_in whose.settings whose.rest) ⊎ (b ≡ kept_text (digest_of whose begun) (record { node = whose.node; calls = i.synced }))) (sym lies) i.stands;
     }
 
 -- each digest has 33 bytes
@@ -116,3 +138,9 @@ pub record RunsOn (whose : Whose) (begun : List ℕ) (settings : Settings) (h : 
   pub inner : IsInner whose begun h (steps_from (context_of settings) (begins settings whose.node whose.rest) p steps)
   pub lives : Lives (context_of settings) (begins settings whose.node whose.rest) (steps_from (context_of settings) (begins settings whose.node whose.rest) p steps)
   pub asked : AreAskedIn (whole_lines (heard (acts_of h))) steps
+
+-- so after such an act of a process that lives, where all went well
+pub still_step : (whose : Whose) (begun : List ℕ) (settings : Settings) (h : List Happening) (p : Process) → IsInner whose begun h p → Lives (context_of settings) (begins settings whose.node whose.rest) p → (act : Act) → GoesWell (acts_of h) → file_of begun (Does act ∷ h) ≡ file (acts_of h)
+    → on_disk begun (Does act ∷ h) ≡ on_disk begun h → kept (act ∷ acts_of h) ≡ kept (acts_of h) → IsToldBy whose.node p.synced (said (act ∷ acts_of h)) → RunsOn whose begun settings (Does act ∷ h) p
+still_step whose begun settings h p i lives act well has lies keeps told =
+    record { steps = []; inner = inner_still whose begun h p i act (has ∙ sym (file_there begun h well)) lies keeps told; lives = lives; asked = tt }

@@ -25,7 +25,7 @@ use Rattle.node_process.proofs.Bare.{HasKept, ReadsKept}
 use Rattle.node_process.proofs.Left.{IsTornOf, start_length, taken_length, untorn, torn_fits, torn_reads, zeros_read, text_cut, nothing_cut, same_reading, not_short}
 use Rattle.node_process.proofs.Fronts.{start_taken, take_none}
 use Rattle.node_process.proofs.Waking.{Lives}
-use Rattle.node_process.proofs.Between.{IsInner, digest_length, all_fit, GoesOn, RunsOn}
+use Rattle.node_process.proofs.Between.{IsInner, inner_still, digest_length, all_fit, GoesOn, RunsOn}
 
 short_small : (digest : List ℕ) (node : Node) (bytes : List ℕ) (calls : List Stamped) → length digest ≡ 33 → IsTornOf digest node bytes calls → kept_in digest bytes ≡ Err Short → length bytes < 46
 short_small digest node bytes calls d t short = by_end t.ends
@@ -71,55 +71,13 @@ module _ (whose : Whose) (begun : List ℕ) (settings : Settings) (fits_node : F
 
   pub found_step : (bytes : List ℕ) → acts_of h ≡ [] → bytes ≡ left_of begun h → IsAlive (context_of settings) first_node (acts_of h) p → GoesOn whose begun settings (Does (Found bytes) ∷ h) p
   found_step bytes none is alive =
-      let same : file_of begun h ≡ bytes = ap (file_or (left_of begun h)) none ∙ sym is in
-      record {
-        steps = [];
-        inner = record {
-          synced = i.synced;
-          unsynced = i.unsynced;
-          synced_are = i.synced_are;
-          unsynced_are = i.unsynced_are;
-          disk = i.disk;
-          under = subst (IsStartOf (on_disk begun h)) same i.under;
-          lies = subst (λ (b : List ℕ). IsTornOf digest node b all_kept) same i.lies;
-          first = i.first;
-          more = i.more;
-          goes = i.goes;
-          was = i.was;
-          keeps = inl refl;
-          told = i.told;
-          second = i.second;
-          stands = i.stands;
-        };
-        alive = read_alive (Found bytes) none alive;
-        asked = tt;
-      }
+      let same : bytes ≡ file_of begun h = is ∙ sym (ap (file_or (left_of begun h)) none) in
+      record { steps = []; inner = inner_still whose begun h p i (Found bytes) same refl (sym (ap kept none)) i.told; alive = read_alive (Found bytes) none alive; asked = tt }
 
   pub unread_step : acts_of h ≡ [] → IsAlive (context_of settings) first_node (acts_of h) p → GoesOn whose begun settings (Does Unread ∷ h) p
   unread_step none alive =
-      let same : file_of begun h ≡ left_of begun h = ap (file_or (left_of begun h)) none in
-      record {
-        steps = [];
-        inner = record {
-          synced = i.synced;
-          unsynced = i.unsynced;
-          synced_are = i.synced_are;
-          unsynced_are = i.unsynced_are;
-          disk = i.disk;
-          under = subst (IsStartOf (on_disk begun h)) same i.under;
-          lies = subst (λ (b : List ℕ). IsTornOf digest node b all_kept) same i.lies;
-          first = i.first;
-          more = i.more;
-          goes = i.goes;
-          was = i.was;
-          keeps = i.keeps;
-          told = i.told;
-          second = i.second;
-          stands = i.stands;
-        };
-        alive = read_alive Unread none alive;
-        asked = tt;
-      }
+      let same : left_of begun h ≡ file_of begun h = sym (ap (file_or (left_of begun h)) none) in
+      record { steps = []; inner = inner_still whose begun h p i Unread same refl refl i.told; alive = read_alive Unread none alive; asked = tt }
 
   -- what stands after the whole records is cut off
   pub cut_step : Lives (context_of settings) first_node p → (size : ℕ) (done : Bool) (start : Serving) (whole : ℕ) → turned_under whose.settings whose.rest (found t) ≡ digest → IsOpened whose.settings node whose.rest (found t) whole start → found t ≡ left_of begun h → t ≡ Found (found t) ∷ [] → take size (found t) ≡ take whole (found t)

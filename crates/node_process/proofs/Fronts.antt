@@ -10,6 +10,9 @@ all_of bytes = record { rest = []; is = append-nil bytes }
 pub start_with : (front bytes more : List ℕ) → IsStartOf front bytes → IsStartOf front (bytes ++ more)
 start_with front bytes more s = record { rest = s.rest ++ more; is = sym (append_assoc front s.rest more) ∙ ap (λ (x : List ℕ). x ++ more) s.is }
 
+pub through : (a b c : List ℕ) → IsStartOf a b → IsStartOf b c → IsStartOf a c
+through a b c s t = record { rest = s.rest ++ t.rest; is = sym (append_assoc a s.rest t.rest) ∙ (ap (λ (x : List ℕ). x ++ t.rest) s.is ∙ t.is) }
+
 pub start_taken : (front bytes : List ℕ) (n : ℕ) → IsStartOf front bytes → length front ≤ n → IsStartOf front (take n bytes)
 start_taken front bytes n s le =
     let m = n - length front in

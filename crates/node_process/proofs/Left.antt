@@ -50,9 +50,6 @@ first_of front bytes s = sym (ap (take (length front)) (sym s.is) ∙ take_at fr
 pub start_length : (front bytes : List ℕ) → IsStartOf front bytes → length front ≤ length bytes
 start_length front bytes s = let e = length-append front s.rest in let f = ap length s.is in omega (arith, e, f)
 
-pub starts_on : (a b c : List ℕ) → IsStartOf a b → IsStartOf b c → IsStartOf a c
-starts_on a b c s t = record { rest = s.rest ++ t.rest; is = sym (append_assoc a s.rest t.rest) ∙ (ap (λ (x : List ℕ). x ++ t.rest) s.is ∙ t.is) }
-
 pub taken_length : {A : Type 0} (n : ℕ) (xs : List A) → length (take n xs) ≤ n
 taken_length zero xs = omega arith
 taken_length (suc n) [] = omega arith

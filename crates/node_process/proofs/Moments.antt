@@ -8,18 +8,10 @@ use Rattle.node_process.specs.Acts.{Act, Found, Cut, Append, Sync, Say, Hear, Un
 use Rattle.node_process.specs.Heard.{whole_lines, begun_line}
 use Rattle.node_process.specs.Safe.{Whose, AreEnough, closed_calls, greeting, IsStartOf, asked, log_of, words_of, FitsInput, IsCovered, IsLogOfInput, IsWholeFile, IsSafe, AtEachMoment, IsRun, IsRunDone, IsServed, IsLogged, IsOpening, Reads, Trims, Heads, Begins, Serves, Logs}
 use Rattle.node_service.proofs.Lines.{new_or_whole}
+use Rattle.node_process.proofs.Fronts.{all_of, start_with, through}
 use Rattle.node_process.proofs.Asking.{asked_more, fits_more}
 
 -- ---- beginnings
-
-all_of : (bytes : List ℕ) → IsStartOf bytes bytes
-all_of bytes = record { rest = []; is = append-nil bytes }
-
-start_is : (front bytes other : List ℕ) → bytes ≡ other → IsStartOf front bytes → IsStartOf front other
-start_is front bytes other e s = subst (IsStartOf front) e s
-
-start_with : (front bytes more : List ℕ) → IsStartOf front bytes → IsStartOf front (bytes ++ more)
-start_with front bytes more s = record { rest = s.rest ++ more; is = sym (append_assoc front s.rest more) ∙ ap (λ (x : List ℕ). x ++ more) s.is }
 
 same_start : (front bytes : List ℕ) → front ≡ bytes → IsStartOf front bytes
 same_start front bytes e = subst (IsStartOf front) e (all_of front)
@@ -41,10 +33,10 @@ module _ (before : ℕ) (start : Serving) (base : List ℕ) where
   cover_on t u words more keeps (inl silent) = inl (words ∙ silent)
   cover_on t u words more keeps (inr c) = inr (record {
     input = c.input;
-    came = record { rest = c.came.rest ++ more.rest; is = sym (append_assoc c.input c.came.rest more.rest) ∙ (ap (λ (x : List ℕ). x ++ more.rest) c.came.is ∙ more.is) };
+    came = through c.input (heard t) (heard u) c.came more;
     fits = c.fits;
     sent = subst (λ (x : List ℕ). IsStartOf x (words_of before start c.input)) (sym words) c.sent;
-    logged = record { rest = c.logged.rest ++ keeps.rest; is = sym (append_assoc (log_of start base c.input) c.logged.rest keeps.rest) ∙ (ap (λ (x : List ℕ). x ++ keeps.rest) c.logged.is ∙ keeps.is) };
+    logged = through (log_of start base c.input) (kept t) (kept u) c.logged keeps;
   })
 
   all_log : (t : List Act) → FitsInput start (heard t) → file t ≡ log_of start base (heard t) → IsLogOfInput start base t

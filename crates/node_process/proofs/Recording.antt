@@ -27,7 +27,7 @@ use Rattle.node_process.proofs.Stepping.{makes_of, makes_all, syncs_of, syncs_al
 use Rattle.node_process.proofs.Texts.{IsMadeText}
 use Rattle.node_process.proofs.Fronts.{all_of, start_with, same_behind, all_behind}
 use Rattle.node_process.proofs.Waking.{Lives, syncs_asked, makes_asked}
-use Rattle.node_process.proofs.Between.{IsInner, digest_length, recorded, file_there, all_fit, synced_fit, file_read, RunsOn}
+use Rattle.node_process.proofs.Between.{IsInner, digest_length, recorded, file_there, all_fit, synced_fit, file_read, RunsOn, still_step}
 
 nothing_read : (digest : List ℕ) (node : Node) (bytes : List ℕ) (calls : List Stamped) → length digest ≡ 33 → bytes ≡ [] → ReadsKept digest node bytes calls → calls ≡ []
 nothing_read digest node bytes calls d none (inr short) = short.1
@@ -136,28 +136,7 @@ module _ (whose : Whose) (begun : List ℕ) (settings : Settings) (h : List Happ
 
   -- what is recorded is synced
   pub sync_step : Lives (context_of settings) first_node p → (done : Bool) (calls : List Stamped) → GoesWell t → IsMadeText whose digest settings (file t) calls → RunsOn whose begun settings (Does (Sync done) ∷ h) p
-  sync_step lives false calls well text = record {
-    steps = [];
-    inner = record {
-      synced = i.synced;
-      unsynced = i.unsynced;
-      synced_are = i.synced_are;
-      unsynced_are = i.unsynced_are;
-      disk = i.disk;
-      under = subst (IsStartOf (on_disk begun h)) (file_there begun h well) i.under;
-      lies = subst (λ (b : List ℕ). IsTornOf digest node b all_kept) (file_there begun h well) i.lies;
-      first = i.first;
-      more = i.more;
-      goes = i.goes;
-      was = i.was;
-      keeps = i.keeps;
-      told = i.told;
-      second = i.second;
-      stands = i.stands;
-    };
-    lives = lives;
-    asked = tt;
-  }
+  sync_step lives false calls well text = still_step whose begun settings h p i lives (Sync false) well refl refl refl i.told
   sync_step lives true calls well text =
       let ctx = context_of settings in
       let q : Process = record { memory = p.memory; synced = model_file p; unsynced = [] } in

@@ -28,10 +28,10 @@ use Rattle.node_process.proofs.Left.{torn_reads, same_reading, not_short}
 use Rattle.node_process.proofs.Stepping.{steps_append}
 use Rattle.node_process.proofs.Texts.{IsMadeText, input_text}
 use Rattle.node_process.proofs.Waking.{Lives, wake, awake, alive_after, asked_awake, asked_append}
-use Rattle.node_process.proofs.Between.{IsInner, inner_as, digest_length, synced_fit, GoesOn, RunsOn}
+use Rattle.node_process.proofs.Between.{IsInner, inner_as, digest_length, synced_fit, GoesOn, RunsOn, still_step}
 use Rattle.node_process.proofs.Finding.{found_step, unread_step, cut_step}
 use Rattle.node_process.proofs.Recording.{append_step, sync_step}
-use Rattle.node_process.proofs.Saying.{covered_told, say_step, hear_step, unheard_step}
+use Rattle.node_process.proofs.Saying.{covered_told}
 use Rattle.node_process.proofs.Dying.{dies_step}
 use Rattle.node_process.proofs.LineCalls.{kept_asked_for}
 
@@ -92,9 +92,9 @@ module _ (whose : Whose) (begun : List ℕ) (settings : Settings) (spells : Spel
           let text = input_text whose digest settings (found t) whole start log.input spells second o log.fits in
           sync_step whose begun settings h p i lives done (o.log.calls ++ lines_kept start (whole_lines log.input)) safe.order.0 (subst (λ (b : List ℕ). IsMadeText whose digest settings b (o.log.calls ++ lines_kept start (whole_lines log.input))) (sym log.is) text)
       by_act (Say bytes done) is none start whole second o safe =
-          say_step whose begun settings h p i lives bytes done safe.order (subst (λ (x : List Logged). IsToldBy node x (said t ++ bytes)) i.synced_are (covered_told whose digest settings (Say bytes done ∷ t) (on_disk begun h) start whole i.synced spells second o (synced_fit whose begun h p i) i.disk d i.keeps safe.covered))
-      by_act (Hear bytes) is none start whole second o safe = hear_step whose begun settings h p i lives bytes safe.order
-      by_act Unheard is none start whole second o safe = unheard_step whose begun settings h p i lives safe.order
+          still_step whose begun settings h p i lives (Say bytes done) safe.order refl refl refl (subst (λ (x : List Logged). IsToldBy node x (said t ++ bytes)) i.synced_are (covered_told whose digest settings (Say bytes done ∷ t) (on_disk begun h) start whole i.synced spells second o (synced_fit whose begun h p i) i.disk d i.keeps safe.covered))
+      by_act (Hear bytes) is none start whole second o safe = still_step whose begun settings h p i lives (Hear bytes) safe.order refl refl refl i.told
+      by_act Unheard is none start whole second o safe = still_step whose begun settings h p i lives Unheard safe.order refl refl refl i.told
 
 -- ---- each act
 

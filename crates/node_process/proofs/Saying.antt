@@ -1,32 +1,25 @@
--- What is said is told by calls on the disk; and words come in.
-use Rattle.std.proofs.Common.{◌≡◌, ◌⊎◌, inl, inr, ℕ, Bool, List, [], ◌∷◌, ◌++◌, length, take, Option, refl, sym, ap, ◌∙◌, subst, arith}
-use Rattle.claim_model.specs.Node.{Node}
-use Rattle.claim_model.specs.Nodes.{AnyNode}
+-- What is said is told by calls on the disk.
+use Rattle.std.proofs.Common.{◌≡◌, ◌⊎◌, inl, inr, ℕ, List, [], ◌++◌, length, take, refl, sym, ap, ◌∙◌, subst, arith}
 use Rattle.claim_model.specs.Logs.{Logged}
-use Rattle.crash_safety.specs.Network.{Process}
 use Rattle.world_setup.specs.declared.settings.WorldSettings.{WorldSettings as Settings}
-use Rattle.node_logged.specs.Setting.{context_of}
 use Rattle.kept_logs.specs.Stamps.{Stamped, bare_calls}
 use Rattle.kept_logs.specs.Logs.{kept_text}
 use Rattle.kept_logs.specs.Fits.{FitsKept}
 use Rattle.kept_logs.specs.Cuts.{calls_within}
-use Rattle.kept_logs.specs.Rests.{begins}
 use Rattle.kept_logs.proofs.LogsBack.{log_length}
 use Rattle.node_service.specs.Serving.{Serving}
 use Rattle.node_service.specs.Lines.{lines_calls, lines_kept}
 use Rattle.node_service.specs.Opened.{Spells, IsOpened}
 use Rattle.settings_digest.specs.Digests.{turned_under}
 use Rattle.node_service.proofs.Lines.{bare_append, lines_bare}
-use Rattle.node_process.specs.Acts.{Act, Say, Hear, Unheard, found, kept, said}
+use Rattle.node_process.specs.Acts.{Act, found, kept, said}
 use Rattle.node_process.specs.Heard.{whole_lines}
-use Rattle.node_process.specs.Safe.{IsStartOf, closed_calls, log_of, IsCovered, GoesWell, Whose}
-use Rattle.node_process.specs.Histories.{Happening, Does, acts_of, on_disk, digest_of, IsToldBy}
+use Rattle.node_process.specs.Safe.{IsStartOf, closed_calls, log_of, IsCovered, Whose}
+use Rattle.node_process.specs.Histories.{IsToldBy}
 use Rattle.node_process.proofs.Bare.{HasKept, bare_take}
-use Rattle.node_process.proofs.Left.{IsTornOf, first_of, start_length, begins_with}
+use Rattle.node_process.proofs.Left.{first_of, start_length, begins_with}
 use Rattle.node_process.proofs.Spoken.{told_by, told_nothing}
 use Rattle.node_process.proofs.Texts.{IsMadeText, input_text}
-use Rattle.node_process.proofs.Waking.{Lives}
-use Rattle.node_process.proofs.Between.{IsInner, file_there, RunsOn}
 
 -- what was said is told by calls whose records are on the disk
 pub covered_told : (whose : Whose) (digest : List ℕ) (settings : Settings) (acts : List Act) (disk : List ℕ) (start : Serving) (whole : ℕ) (synced : List Stamped) → Spells whose.settings settings → turned_under whose.settings whose.rest (found acts) ≡ digest → (o : IsOpened whose.settings whose.node whose.rest (found acts) whole start)
@@ -59,94 +52,3 @@ covered_told whose digest settings acts disk start whole synced spells second o 
         let bare_are : bare_calls calls ≡ bare_calls o.log.calls ++ lines_calls start (whole_lines c.input) =
         bare_append o.log.calls (lines_kept start (whole_lines c.input)) ∙ ap (λ (x : List Logged). bare_calls o.log.calls ++ x) (lines_bare start (whole_lines c.input)) in
         told_by whose.node (closed_calls whose) start c.input (said acts) (bare_calls o.log.calls) (bare_calls synced) k o.silent (sym bare_are ∙ (ap bare_calls first ∙ bare_take k synced)) c.sent
-
-module _ (whose : Whose) (begun : List ℕ) (settings : Settings) (h : List Happening) (p : Process) (i : IsInner whose begun h p) where
-  abbrev digest : List ℕ
-  digest = digest_of whose begun
-
-  abbrev node : Node
-  node = whose.node
-
-  -- what the log begins with
-  abbrev first_node : Option AnyNode
-  first_node = begins settings whose.node whose.rest
-
-  abbrev t : List Act
-  t = acts_of h
-
-  -- all records that the file has
-  abbrev all_kept : List Stamped
-  all_kept = i.synced ++ i.unsynced
-
-  -- words that are on the disk are said
-  pub say_step : Lives (context_of settings) first_node p → (bytes : List ℕ) (done : Bool) → GoesWell t → IsToldBy node p.synced (said t ++ bytes) → RunsOn whose begun settings (Does (Say bytes done) ∷ h) p
-  say_step lives bytes done well told = record {
-    steps = [];
-    inner = record {
-      synced = i.synced;
-      unsynced = i.unsynced;
-      synced_are = i.synced_are;
-      unsynced_are = i.unsynced_are;
-      disk = i.disk;
-      under = subst (IsStartOf (on_disk begun h)) (file_there begun h well) i.under;
-      lies = subst (λ (b : List ℕ). IsTornOf digest node b all_kept) (file_there begun h well) i.lies;
-      first = i.first;
-      more = i.more;
-      goes = i.goes;
-      was = i.was;
-      keeps = i.keeps;
-      told = told;
-      second = i.second;
-      stands = i.stands;
-    };
-    lives = lives;
-    asked = tt;
-  }
-
-  pub hear_step : Lives (context_of settings) first_node p → (bytes : List ℕ) → GoesWell t → RunsOn whose begun settings (Does (Hear bytes) ∷ h) p
-  hear_step lives bytes well = record {
-    steps = [];
-    inner = record {
-      synced = i.synced;
-      unsynced = i.unsynced;
-      synced_are = i.synced_are;
-      unsynced_are = i.unsynced_are;
-      disk = i.disk;
-      under = subst (IsStartOf (on_disk begun h)) (file_there begun h well) i.under;
-      lies = subst (λ (b : List ℕ). IsTornOf digest node b all_kept) (file_there begun h well) i.lies;
-      first = i.first;
-      more = i.more;
-      goes = i.goes;
-      was = i.was;
-      keeps = i.keeps;
-      told = i.told;
-      second = i.second;
-      stands = i.stands;
-    };
-    lives = lives;
-    asked = tt;
-  }
-
-  pub unheard_step : Lives (context_of settings) first_node p → GoesWell t → RunsOn whose begun settings (Does Unheard ∷ h) p
-  unheard_step lives well = record {
-    steps = [];
-    inner = record {
-      synced = i.synced;
-      unsynced = i.unsynced;
-      synced_are = i.synced_are;
-      unsynced_are = i.unsynced_are;
-      disk = i.disk;
-      under = subst (IsStartOf (on_disk begun h)) (file_there begun h well) i.under;
-      lies = subst (λ (b : List ℕ). IsTornOf digest node b all_kept) (file_there begun h well) i.lies;
-      first = i.first;
-      more = i.more;
-      goes = i.goes;
-      was = i.was;
-      keeps = i.keeps;
-      told = i.told;
-      second = i.second;
-      stands = i.stands;
-    };
-    lives = lives;
-    asked = tt;
-  }

@@ -29,9 +29,6 @@ glue_first : (b : ℕ) (first : List ℕ) (more ys : List (List ℕ)) (y : List 
 glue_first b first [] ys y = refl
 glue_first b first (z ∷ more) ys y = refl
 
-glue_empty : (first : List ℕ) (more ys : List (List ℕ)) → [] ∷ glue (first ∷ more) ys ≡ glue ([] ∷ first ∷ more) ys
-glue_empty first more ys = refl
-
 split_append : (a b : List ℕ) → slice_split is_newline (a ++ b) ≡ glue (slice_split is_newline a) (slice_split is_newline b)
 split_append [] b = let s = split_some b in s.2 ∙ sym (ap (glue ([] ∷ [])) s.2)
 split_append (x ∷ a) b = by_test (split_append a b) (is_newline x) refl

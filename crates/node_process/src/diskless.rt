@@ -4,8 +4,8 @@ ghost use Rattle.std.specs.Prelude.{◌≡◌, []};
 ghost use Rattle.node_process.specs.Noting.{acts_of};
 
 use crate::machine::Machine;
-use crate::noted::{APPENDED, CUT, FOUND, HEARD, Noted, SAID, SYNCED};
-use crate::streams::{heard, written};
+use crate::noted::{APPENDED, CUT, FOUND, Noted, SYNCED};
+use crate::streams::{hear, say};
 use std::alloc::Global;
 use std::io;
 use std::io::{Read, Write};
@@ -60,22 +60,10 @@ impl<I: Read + Drop, O: Write + Drop> Machine for Diskless<I, O> {
     }
 
     fn say(&mut self, bytes: &[u8]) -> io::Result<()> {
-        let answer = written(&mut self.output, bytes);
-        self.noted
-            .note(&[SAID, u64::from(answer.is_ok()), 0], bytes);
-        answer
+        say(&mut self.output, &mut self.noted, bytes)
     }
 
     fn hear(&mut self, buffer: &mut [u8]) -> io::Result<usize> {
-        match heard(&mut self.input, buffer) {
-            Ok(count) => {
-                self.noted.note(&[HEARD, 1, 0], &buffer[..count]);
-                Ok(count)
-            }
-            Err(error) => {
-                self.noted.note(&[HEARD, 0, 0], &[]);
-                Err(error)
-            }
-        }
+        hear(&mut self.input, &mut self.noted, buffer)
     }
 }

@@ -5,8 +5,8 @@ ghost use Rattle.node_process.specs.Noting.{acts_of};
 
 use crate::beside::{keep_all, keep_end, leave_mark};
 use crate::machine::Machine;
-use crate::noted::{APPENDED, CUT, FOUND, HEARD, Noted, SAID, SYNCED};
-use crate::streams::{heard, written};
+use crate::noted::{APPENDED, CUT, FOUND, Noted, SYNCED};
+use crate::streams::{hear, say};
 use std::alloc::Global;
 use std::fs::File;
 use std::io::{ErrorKind, Read, Write};
@@ -74,43 +74,25 @@ impl<'a, I: Read + Drop, O: Write + Drop> Machine for Host<'a, I, O> {
     fn cut(&mut self, size: usize) -> io::Result<()> {
         let behind = self.front.saturating_add(size as u64);
         let answer = cut_off(self.rt, self.path, &self.file, behind);
-        self.noted
-            .note(&[CUT, u64::from(answer.is_ok()), size as u64], &[]);
-        answer
+        self.noted.answered(CUT, size as u64, &[], answer)
     }
 
     fn append(&mut self, bytes: &[u8]) -> io::Result<()> {
         let answer = self.file.write_all(bytes);
-        self.noted
-            .note(&[APPENDED, u64::from(answer.is_ok()), 0], bytes);
-        answer
+        self.noted.answered(APPENDED, 0, bytes, answer)
     }
 
     fn sync(&mut self) -> io::Result<()> {
         let answer = synced(self.rt, self.path, &self.file);
-        self.noted
-            .note(&[SYNCED, u64::from(answer.is_ok()), 0], &[]);
-        answer
+        self.noted.answered(SYNCED, 0, &[], answer)
     }
 
     fn say(&mut self, bytes: &[u8]) -> io::Result<()> {
-        let answer = written(&mut self.output, bytes);
-        self.noted
-            .note(&[SAID, u64::from(answer.is_ok()), 0], bytes);
-        answer
+        say(&mut self.output, &mut self.noted, bytes)
     }
 
     fn hear(&mut self, buffer: &mut [u8]) -> io::Result<usize> {
-        match heard(&mut self.input, buffer) {
-            Ok(count) => {
-                self.noted.note(&[HEARD, 1, 0], &buffer[..count]);
-                Ok(count)
-            }
-            Err(error) => {
-                self.noted.note(&[HEARD, 0, 0], &[]);
-                Err(error)
-            }
-        }
+        hear(&mut self.input, &mut self.noted, buffer)
     }
 }
 

@@ -1,9 +1,10 @@
 //! A list of notes that clauses alone read: it has no bytes in memory.
 
-ghost use Rattle.std.specs.Prelude.{◌≡◌, List, [], ◌∷◌};
+ghost use Rattle.std.specs.Prelude.{◌≡◌, List, [], ◌∷◌, is_ok};
 ghost use Rattle.std.specs.Borrow.{ftrue};
-ghost use Rattle.node_process.specs.Noting.{Note};
+ghost use Rattle.node_process.specs.Noting.{Note, answered};
 
+use std::io;
 use std::marker::{Model, PhantomData};
 
 /// Kinds of acts, as they are noted.
@@ -44,4 +45,18 @@ impl Noted {
     pub fn note(&mut self, _numbers: &[u64], _bytes: &[u8])
         ensures { self.new.notes ≡ (_numbers.now, _bytes.now) ∷ self.old.notes }
     {}
+
+    /// Notes one more call, and hands on what it answered.
+    pub fn answered(
+        &mut self,
+        kind: u64,
+        size: u64,
+        bytes: &[u8],
+        answer: io::Result<()>,
+    ) -> io::Result<()>
+        ensures { self.new.notes ≡ answered kind (is_ok result) size bytes.now ∷ self.old.notes }
+    {
+        self.note(&[kind, u64::from(answer.is_ok()), size], bytes);
+        answer
+    }
 }
