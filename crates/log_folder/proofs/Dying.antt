@@ -1,22 +1,18 @@
 -- What a death leaves at each moment while a log is closed.
-use Rattle.std.proofs.Common.{◌≡◌, ◌⊎◌, inl, inr, ℕ, Bool, true, false, cond, List, [], ◌∷◌, ◌++◌, take, drop, length, Some, refl, sym, ap, ◌∙◌, subst, ◌==◌, append_assoc, append-nil}
+use Rattle.std.proofs.Common.{◌≡◌, ◌⊎◌, inl, inr, ℕ, Bool, true, false, cond, List, [], ◌∷◌, ◌++◌, take, drop, length, Some, refl, sym, ◌∙◌, subst, ◌==◌}
 use Rattle.std.proofs.lemmas.List.{take-append-drop}
 use Rattle.std.proofs.lemmas.Bool.{false≢true}
+use Rattle.node_process.specs.Safe.{IsStartOf}
+use Rattle.node_process.proofs.Fronts.{all_of, through}
 use Rattle.log_turning.specs.Files.{part_in}
 use Rattle.log_turning.specs.declared.turning.Turned.{Turned}
 use Rattle.log_folder.specs.Deeds.{Deed, Plan, IsFollowed, Found, MadeNext, KeptEnd, Cut, Append, Sync, Linked, SyncNames, Exchanged}
 use Rattle.log_folder.specs.Plans.{closing_plan, closed, cut_at, exchanged, place_in}
-use Rattle.log_folder.specs.Deaths.{IsStartOf, Left, left, MayStand, IsOneOrTheOther, new_file}
-use Rattle.log_folder.proofs.Following.{AtEachMoment, at_each_moment}
-
-all_of : (bytes : List ℕ) → IsStartOf bytes bytes
-all_of bytes = record { rest = []; is = append-nil bytes }
+use Rattle.log_folder.specs.Deaths.{Left, left, MayStand, IsOneOrTheOther, new_file}
+use Rattle.replaced_files.proofs.Following.{AtEachMoment, at_each_moment}
 
 front_of : (n : ℕ) (bytes : List ℕ) → IsStartOf (take n bytes) bytes
 front_of n bytes = record { rest = drop n bytes; is = take-append-drop n bytes }
-
-through : (a b c : List ℕ) → IsStartOf a b → IsStartOf b c → IsStartOf a c
-through a b c s t = record { rest = s.rest ++ t.rest; is = sym (append_assoc a s.rest t.rest) ∙ (ap (λ (x : List ℕ). x ++ t.rest) s.is ∙ t.is) }
 
 same_bytes : (a b : List ℕ) → Some a ≡ Some b → a ≡ b
 same_bytes a b e = cc e
@@ -50,137 +46,75 @@ module _ (bytes : List ℕ) (turned : Turned) (untorn : Bool) where
   closed_behind l is next named kept standing (inl old) = inl (own l standing is old.1)
   closed_behind l is next named kept standing (inr new) = inr (same_bytes standing (new_file turned) (sym new.1 ∙ next), (named, kept))
 
-  abbrev pub plan_by : Plan
+  abbrev pub plan_by : Plan Deed
   plan_by = MadeNext (new_file turned) ∷ (cond untorn [] (cut_at (place_in bytes turned.kept)) ++ (closed turned ++ exchanged))
 
   abbrev pub Fine : List Deed → Type 0
   Fine deeds = OneOrTheOther (left deeds)
 
--- no record was cut off: the file has what it had until its end is appended
-untorn_moments : (bytes : List ℕ) (turned : Turned) (before : List Deed) → AtEachMoment (Fine bytes turned true) (plan_by bytes turned true) (Found bytes ∷ before)
-untorn_moments bytes turned before =
-    let d0 : List Deed = Found bytes ∷ before in
-    let d1 : List Deed = MadeNext (new_file turned) true ∷ d0 in
-    let d2 : List Deed = Append turned.closing.items true ∷ d1 in
-    let d3 : List Deed = Sync true ∷ d2 in
-    let d4 : List Deed = Linked turned.calls true ∷ d3 in
-    let d5 : List Deed = SyncNames true ∷ d4 in
-    let d6 : List Deed = Exchanged true ∷ d5 in
-    let d7 : List Deed = SyncNames true ∷ d6 in (
-      open_still bytes turned true (left (d0)) refl (refl, inl (all_of bytes)),
-      (
-        open_still bytes turned true (left (MadeNext (new_file turned) false ∷ d0)) refl (refl, inl (all_of bytes)),
+  -- once the file has what is to stay, and the next one is there: the end is appended, the closed log gets its name, and the next one that of the log
+  end_moments : (deeds : List Deed) → (left deeds).found ≡ bytes → IsStartOf (left deeds).file bytes → (left deeds).file ++ turned.closing.items ≡ closed_by → (left deeds).next ≡ Some (new_file turned) → (left deeds).exchanged ≡ false
+      → AtEachMoment Fine (closed turned ++ exchanged) deeds
+  end_moments deeds found front whole next not_yet =
+      let d1 : List Deed = Append turned.closing.items true ∷ deeds in
+      let d2 : List Deed = Sync true ∷ d1 in
+      let d3 : List Deed = Linked turned.calls true ∷ d2 in
+      let d4 : List Deed = SyncNames true ∷ d3 in
+      let d5 : List Deed = Exchanged true ∷ d4 in
+      let ends : IsOwn (left d1) = (found, inr (subst (λ (b : List ℕ). IsStartOf b closed_by) (sym whole) (all_of closed_by))) in (
+        open_still (left deeds) not_yet (found, inl front),
+        open_still (left (Append turned.closing.items false ∷ deeds)) not_yet ends,
         (
-          open_still bytes turned true (left (d1)) refl (refl, inl (all_of bytes)),
+          open_still (left d1) not_yet ends,
+          open_still (left (Sync false ∷ d1)) not_yet ends,
           (
-            open_still bytes turned true (left (Append turned.closing.items false ∷ d1)) refl (refl, inr (all_of (closed_by bytes turned true))),
+            open_still (left d2) not_yet ends,
+            open_still (left (Linked turned.calls false ∷ d2)) not_yet ends,
             (
-              open_still bytes turned true (left (d2)) refl (refl, inr (all_of (closed_by bytes turned true))),
+              open_still (left d3) not_yet ends,
+              open_still (left (SyncNames false ∷ d3)) not_yet ends,
               (
-                open_still bytes turned true (left (Sync false ∷ d2)) refl (refl, inr (all_of (closed_by bytes turned true))),
+                open_still (left d4) not_yet ends,
+                closed_behind (left (Exchanged false ∷ d4)) ends next refl whole,
                 (
-                  open_still bytes turned true (left (d3)) refl (refl, inr (all_of (closed_by bytes turned true))),
-                  (
-                    open_still bytes turned true (left (Linked turned.calls false ∷ d3)) refl (refl, inr (all_of (closed_by bytes turned true))),
-                    (
-                      open_still bytes turned true (left (d4)) refl (refl, inr (all_of (closed_by bytes turned true))),
-                      (
-                        open_still bytes turned true (left (SyncNames false ∷ d4)) refl (refl, inr (all_of (closed_by bytes turned true))),
-                        (
-                          open_still bytes turned true (left (d5)) refl (refl, inr (all_of (closed_by bytes turned true))),
-                          (
-                            closed_behind bytes turned true (left (Exchanged false ∷ d5)) (refl, inr (all_of (closed_by bytes turned true))) refl refl refl,
-                            (
-                              closed_behind bytes turned true (left (d6)) (refl, inr (all_of (closed_by bytes turned true))) refl refl refl,
-                              (
-                                closed_behind bytes turned true (left (SyncNames false ∷ d6)) (refl, inr (all_of (closed_by bytes turned true))) refl refl refl,
-                                closed_behind bytes turned true (left (d7)) (refl, inr (all_of (closed_by bytes turned true))) refl refl refl,
-                              ),
-                            ),
-                          ),
-                        ),
-                      ),
-                    ),
-                  ),
+                  closed_behind (left d5) ends next refl whole,
+                  closed_behind (left (SyncNames false ∷ d5)) ends next refl whole,
+                  closed_behind (left (SyncNames true ∷ d5)) ends next refl whole,
                 ),
               ),
             ),
           ),
         ),
-      ),
-    )
-
--- a record was cut off
-torn_moments : (bytes : List ℕ) (turned : Turned) (before : List Deed) → AtEachMoment (Fine bytes turned false) (plan_by bytes turned false) (Found bytes ∷ before)
-torn_moments bytes turned before =
-    let d0 : List Deed = Found bytes ∷ before in
-    let d1 : List Deed = MadeNext (new_file turned) true ∷ d0 in
-    let d2 : List Deed = KeptEnd (place_in bytes turned.kept) true ∷ d1 in
-    let d3 : List Deed = Cut (place_in bytes turned.kept) true ∷ d2 in
-    let d4 : List Deed = Append turned.closing.items true ∷ d3 in
-    let d5 : List Deed = Sync true ∷ d4 in
-    let d6 : List Deed = Linked turned.calls true ∷ d5 in
-    let d7 : List Deed = SyncNames true ∷ d6 in
-    let d8 : List Deed = Exchanged true ∷ d7 in
-    let d9 : List Deed = SyncNames true ∷ d8 in (
-      open_still bytes turned false (left (d0)) refl (refl, inl (all_of bytes)),
-      (
-        open_still bytes turned false (left (MadeNext (new_file turned) false ∷ d0)) refl (refl, inl (all_of bytes)),
-        (
-          open_still bytes turned false (left (d1)) refl (refl, inl (all_of bytes)),
-          (
-            open_still bytes turned false (left (KeptEnd (place_in bytes turned.kept) false ∷ d1)) refl (refl, inl (all_of bytes)),
-            (
-              open_still bytes turned false (left (d2)) refl (refl, inl (all_of bytes)),
-              (
-                open_still bytes turned false (left (Cut (place_in bytes turned.kept) false ∷ d2)) refl (refl, inl (front_of (place_in bytes turned.kept) bytes)),
-                (
-                  open_still bytes turned false (left (d3)) refl (refl, inl (front_of (place_in bytes turned.kept) bytes)),
-                  (
-                    open_still bytes turned false (left (Append turned.closing.items false ∷ d3)) refl (refl, inr (all_of (closed_by bytes turned false))),
-                    (
-                      open_still bytes turned false (left (d4)) refl (refl, inr (all_of (closed_by bytes turned false))),
-                      (
-                        open_still bytes turned false (left (Sync false ∷ d4)) refl (refl, inr (all_of (closed_by bytes turned false))),
-                        (
-                          open_still bytes turned false (left (d5)) refl (refl, inr (all_of (closed_by bytes turned false))),
-                          (
-                            open_still bytes turned false (left (Linked turned.calls false ∷ d5)) refl (refl, inr (all_of (closed_by bytes turned false))),
-                            (
-                              open_still bytes turned false (left (d6)) refl (refl, inr (all_of (closed_by bytes turned false))),
-                              (
-                                open_still bytes turned false (left (SyncNames false ∷ d6)) refl (refl, inr (all_of (closed_by bytes turned false))),
-                                (
-                                  open_still bytes turned false (left (d7)) refl (refl, inr (all_of (closed_by bytes turned false))),
-                                  (
-                                    closed_behind bytes turned false (left (Exchanged false ∷ d7)) (refl, inr (all_of (closed_by bytes turned false))) refl refl refl,
-                                    (
-                                      closed_behind bytes turned false (left (d8)) (refl, inr (all_of (closed_by bytes turned false))) refl refl refl,
-                                      (
-                                        closed_behind bytes turned false (left (SyncNames false ∷ d8)) (refl, inr (all_of (closed_by bytes turned false))) refl refl refl,
-                                        closed_behind bytes turned false (left (d9)) (refl, inr (all_of (closed_by bytes turned false))) refl refl refl,
-                                      ),
-                                    ),
-                                  ),
-                                ),
-                              ),
-                            ),
-                          ),
-                        ),
-                      ),
-                    ),
-                  ),
-                ),
-              ),
-            ),
-          ),
-        ),
-      ),
-    )
+      )
 
 moments : (untorn : Bool) (bytes : List ℕ) (turned : Turned) (before : List Deed) → AtEachMoment (Fine bytes turned untorn) (plan_by bytes turned untorn) (Found bytes ∷ before)
-moments true bytes turned before = untorn_moments bytes turned before
-moments false bytes turned before = torn_moments bytes turned before
+-- no record was cut off: the file has what it had until its end is appended
+moments true bytes turned before =
+    let d0 : List Deed = Found bytes ∷ before in
+    let d1 : List Deed = MadeNext (new_file turned) true ∷ d0 in (
+      open_still bytes turned true (left d0) refl (refl, inl (all_of bytes)),
+      open_still bytes turned true (left (MadeNext (new_file turned) false ∷ d0)) refl (refl, inl (all_of bytes)),
+      end_moments bytes turned true d1 refl (all_of bytes) refl refl refl,
+    )
+-- a record was cut off
+moments false bytes turned before =
+    let place : ℕ = place_in bytes turned.kept in
+    let d0 : List Deed = Found bytes ∷ before in
+    let d1 : List Deed = MadeNext (new_file turned) true ∷ d0 in
+    let d2 : List Deed = KeptEnd place true ∷ d1 in
+    let d3 : List Deed = Cut place true ∷ d2 in (
+      open_still bytes turned false (left d0) refl (refl, inl (all_of bytes)),
+      open_still bytes turned false (left (MadeNext (new_file turned) false ∷ d0)) refl (refl, inl (all_of bytes)),
+      (
+        open_still bytes turned false (left d1) refl (refl, inl (all_of bytes)),
+        open_still bytes turned false (left (KeptEnd place false ∷ d1)) refl (refl, inl (all_of bytes)),
+        (
+          open_still bytes turned false (left d2) refl (refl, inl (all_of bytes)),
+          open_still bytes turned false (left (Cut place false ∷ d2)) refl (refl, inl (front_of place bytes)),
+          end_moments bytes turned false d3 refl (front_of place bytes) refl refl refl,
+        ),
+      ),
+    )
 
 pub one_or_the_other : (bytes : List ℕ) (turned : Turned) (before now : List Deed) → IsFollowed (closing_plan bytes turned) (Found bytes ∷ before) now → IsOneOrTheOther bytes turned (left now)
 one_or_the_other bytes turned before now followed =

@@ -1,5 +1,4 @@
 -- In the order in which one explains them.
-pub mod Following
 pub mod Dying
 pub mod Ended
 pub mod Sound

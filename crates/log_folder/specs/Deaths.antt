@@ -1,14 +1,10 @@
 -- What a death leaves under the name of a log, at any moment while it is closed.
 use Rattle.std.specs.Prelude.{◌≡◌, ◌⊎◌, ℕ, Bool, true, false, ◌==◌, cond, List, [], ◌∷◌, ◌++◌, take, length, Option, Some, None}
+use Rattle.node_process.specs.Safe.{IsStartOf}
 use Rattle.log_turning.specs.Files.{file_text, part_in}
 use Rattle.log_turning.specs.declared.turning.Turned.{Turned}
 use Rattle.log_folder.specs.Deeds.{Deed, Failed, Marked, Opened, Locked, Named, Found, MadeNext, KeptEnd, Cut, Append, Sync, Linked, SyncNames, Exchanged}
 use Rattle.log_folder.specs.Plans.{place_in}
-
--- bytes begin these
-pub record IsStartOf (front bytes : List ℕ) : Type 0 where
-  pub rest : List ℕ
-  pub is : front ++ rest ≡ bytes
 
 -- what came of the deeds since a log was read: the bytes that it had; those that its file has, and how many bytes of them are on the disk for certain; the next
 -- file, where it is on the disk; the number under which the closed log has a name of its own, in the folder, and on the disk; and whether the next file may have

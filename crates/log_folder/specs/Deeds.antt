@@ -1,5 +1,6 @@
--- What was asked of the folder in which a log stands, the newest first, and what it comes to.
-use Rattle.std.specs.Prelude.{◌≡◌, ◌⊎◌, ℕ, Bool, true, false, not, List, [], ◌∷◌}
+-- What was asked of the folder in which a log stands, the newest first, and what it comes to. Plans of it are followed as those of files that are replaced.
+use Rattle.std.specs.Prelude.{ℕ, Bool, true, false, not, List}
+pub use Rattle.replaced_files.specs.Steps.{Plan, IsFollowed, all_done, newest}
 
 -- one call of the system, and whether it was done. A call that failed may have been done in part, or in the system's memory alone
 pub data Deed : Type 0 where
@@ -47,24 +48,3 @@ is_failed (Sync done) = not done
 is_failed (Linked calls done) = not done
 is_failed (SyncNames done) = not done
 is_failed (Exchanged done) = not done
-
--- the newest deed is such
-abbrev pub newest : (Deed → Bool) → List Deed → Bool
-newest such [] = false
-newest such (deed ∷ before) = such deed
-
--- ---- plans
-
--- what is to be done, the first first: each step is the deed that it is, done or not
-abbrev pub Plan : Type 0
-Plan = List (Bool → Deed)
-
--- a plan is followed from here: nothing of it was done yet; or its first step failed, and nothing was done after it; or that was done, and so on
-abbrev pub IsFollowed : Plan → List Deed → List Deed → Type 0
-IsFollowed [] old new = new ≡ old
-IsFollowed (step ∷ more) old new = (new ≡ old) ⊎ ((new ≡ step false ∷ old) ⊎ IsFollowed more (step true ∷ old) new)
-
--- all of it was done
-abbrev pub all_done : Plan → List Deed → List Deed
-all_done [] old = old
-all_done (step ∷ more) old = all_done more (step true ∷ old)

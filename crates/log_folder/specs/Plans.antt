@@ -84,23 +84,23 @@ abbrev pub place_in : List ℕ → ℕ → ℕ
 place_in bytes place = length bytes - (length (part_in bytes).log - place)
 
 -- what stands after a place is kept beside the log, and cut off
-abbrev pub cut_at : ℕ → Plan
+abbrev pub cut_at : ℕ → Plan Deed
 cut_at place = KeptEnd place ∷ Cut place ∷ []
 
 -- a record that was cut off goes; where there is none, nothing
-abbrev pub trimmed : List ℕ → Turned → Plan
+abbrev pub trimmed : List ℕ → Turned → Plan Deed
 trimmed bytes turned = cond (turned.kept == length (part_in bytes).log) [] (cut_at (place_in bytes turned.kept))
 
 -- the closed log is on the disk, and has its own name there
-abbrev pub closed : Turned → Plan
+abbrev pub closed : Turned → Plan Deed
 closed turned = Append turned.closing.items ∷ Sync ∷ Linked turned.calls ∷ SyncNames ∷ []
 
 -- the new log gets the name of the log
-abbrev pub exchanged : Plan
+abbrev pub exchanged : Plan Deed
 exchanged = Exchanged ∷ SyncNames ∷ []
 
 -- a log is closed whose file has these bytes: the next one is on the disk before anything else is done, and gets the name once the closed one has its own
-abbrev pub closing_plan : List ℕ → Turned → Plan
+abbrev pub closing_plan : List ℕ → Turned → Plan Deed
 closing_plan bytes turned = MadeNext (file_text turned.rest.items turned.log.items) ∷ (trimmed bytes turned ++ (closed turned ++ exchanged))
 
 -- a log whose file had these bytes is closed, or was begun to be: nothing was done yet; or its node was served from it, and the plan was followed so far
@@ -170,5 +170,5 @@ damage_in service.OtherNode = None
 damage_in (service.NotMade place) = Some place
 
 -- a log is cut at a place of its file, and is on the disk then
-abbrev pub cutting : ℕ → Plan
+abbrev pub cutting : ℕ → Plan Deed
 cutting place = cut_at place ++ (Sync ∷ SyncNames ∷ [])

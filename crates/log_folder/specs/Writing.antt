@@ -5,7 +5,7 @@ use Rattle.log_folder.specs.declared.fault.WriteFault.TheVariants.{Unmade, Io}
 use Rattle.log_folder.specs.Deeds.{Deed, Plan, Opened, Append, Sync, SyncNames, is_failed, newest}
 
 -- a file of these bytes is made, and is on the disk with its name then
-abbrev pub written : List ℕ → Plan
+abbrev pub written : List ℕ → Plan Deed
 written bytes = Opened ∷ Append bytes ∷ Sync ∷ SyncNames ∷ []
 
 -- why it is not written is so: it could not be made, and nothing else was done; or a later call of the system failed

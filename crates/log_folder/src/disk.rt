@@ -35,7 +35,7 @@ const KEPT_END: u64 = 7;
 
 const CUT: u64 = 8;
 
-pub(crate) const APPENDED: u64 = 9;
+const APPENDED: u64 = 9;
 
 pub(crate) const SYNCED: u64 = 10;
 
@@ -48,10 +48,10 @@ const EXCHANGED: u64 = 13;
 /// The folder in which a log of this name stands. A file that is made nobody else may read: it has what was claimed for whom.
 #[derive(Drop)]
 pub struct Disk<'a> {
-    rt: &'a HostRuntime,
-    path: &'a str,
+    pub(crate) rt: &'a HostRuntime,
+    pub(crate) path: &'a str,
     file: Option<File>,
-    noted: Noted,
+    pub(crate) noted: Noted,
 }
 
 impl<'a> Disk<'a> {
@@ -79,7 +79,7 @@ impl<'a> Disk<'a> {
     }
 
     /// The file that was opened.
-    fn file(&self) -> io::Result<&File> {
+    pub(crate) fn file(&self) -> io::Result<&File> {
         match &self.file {
             Some(file) => Ok(file),
             None => Err(unopened()),
@@ -91,6 +91,13 @@ impl<'a> Disk<'a> {
         ensures { self.new.noted ≡ self.old.noted }
     {
         check_regular(self.rt, self.path)?;
+        self.open_as(options)
+    }
+
+    /// Opens the file.
+    pub(crate) fn open_as(&mut self, options: &OpenOptions) -> io::Result<()>
+        ensures { self.new.noted ≡ self.old.noted }
+    {
         self.file = Some(options.open(self.rt, self.path)?);
         Ok(())
     }
@@ -199,18 +206,14 @@ impl<'a> Folder for Disk<'a> {
         let mut options = OpenOptions::new();
         options.read(true).append(true);
         let answer = self.open_by(&options);
-        self.noted
-            .note(&[OPENED, u64::from(answer.is_ok()), 0], &[]);
-        answer
+        self.noted.answered(OPENED, 0, &[], answer)
     }
 
     fn open_or_make(&mut self) -> io::Result<()> {
         let mut options = OpenOptions::new();
         options.read(true).append(true).create(true).mode(0o600);
         let answer = self.open_by(&options);
-        self.noted
-            .note(&[OPENED, u64::from(answer.is_ok()), 0], &[]);
-        answer
+        self.noted.answered(OPENED, 0, &[], answer)
     }
 
     fn lock(&mut self) -> io::Result<bool> {
@@ -245,16 +248,12 @@ impl<'a> Folder for Disk<'a> {
 
     fn make_next(&mut self, bytes: &[u8]) -> io::Result<()> {
         let answer = self.write_next(bytes);
-        self.noted
-            .note(&[MADE_NEXT, u64::from(answer.is_ok()), 0], bytes);
-        answer
+        self.noted.answered(MADE_NEXT, 0, bytes, answer)
     }
 
     fn keep_end(&mut self, size: u64) -> io::Result<()> {
         let answer = keep_end(self.rt, self.path, size);
-        self.noted
-            .note(&[KEPT_END, u64::from(answer.is_ok()), size], &[]);
-        answer
+        self.noted.answered(KEPT_END, size, &[], answer)
     }
 
     fn cut(&mut self, size: u64) -> io::Result<()> {
@@ -262,16 +261,12 @@ impl<'a> Folder for Disk<'a> {
             Ok(file) => file.set_len(size),
             Err(error) => Err(error),
         };
-        self.noted
-            .note(&[CUT, u64::from(answer.is_ok()), size], &[]);
-        answer
+        self.noted.answered(CUT, size, &[], answer)
     }
 
     fn append(&mut self, bytes: &[u8]) -> io::Result<()> {
         let answer = self.append_all(bytes);
-        self.noted
-            .note(&[APPENDED, u64::from(answer.is_ok()), 0], bytes);
-        answer
+        self.noted.answered(APPENDED, 0, bytes, answer)
     }
 
     fn sync(&mut self) -> io::Result<()> {
@@ -279,30 +274,22 @@ impl<'a> Folder for Disk<'a> {
             Ok(file) => self.or_marked(file.sync_all()),
             Err(error) => Err(error),
         };
-        self.noted
-            .note(&[SYNCED, u64::from(answer.is_ok()), 0], &[]);
-        answer
+        self.noted.answered(SYNCED, 0, &[], answer)
     }
 
     fn link(&mut self, calls: u64) -> io::Result<()> {
         let answer = self.link_closed(calls);
-        self.noted
-            .note(&[LINKED, u64::from(answer.is_ok()), calls], &[]);
-        answer
+        self.noted.answered(LINKED, calls, &[], answer)
     }
 
     fn sync_names(&mut self) -> io::Result<()> {
         let answer = self.or_marked(sync_folder(self.rt, self.path));
-        self.noted
-            .note(&[SYNCED_NAMES, u64::from(answer.is_ok()), 0], &[]);
-        answer
+        self.noted.answered(SYNCED_NAMES, 0, &[], answer)
     }
 
     fn exchange(&mut self) -> io::Result<()> {
         let answer = self.rename_next();
-        self.noted
-            .note(&[EXCHANGED, u64::from(answer.is_ok()), 0], &[]);
-        answer
+        self.noted.answered(EXCHANGED, 0, &[], answer)
     }
 }
 
@@ -316,6 +303,6 @@ fn first_bytes(alloc: Global, file: &File) -> io::Result<Vec<u8>> {
 }
 
 /// That a file was not opened.
-pub(crate) fn unopened() -> io::Error {
+fn unopened() -> io::Error {
     io::Error::new(ErrorKind::NotFound, "the log was not opened")
 }

@@ -117,9 +117,7 @@ impl Readable for OpenedFile {
 
     fn rewind(&mut self) -> io::Result<()> {
         let answer = self.to_beginning();
-        self.noted
-            .note(&[REWOUND, u64::from(answer.is_ok()), 0], &[]);
-        answer
+        self.noted.answered(REWOUND, 0, &[], answer)
     }
 
     fn read_on(&mut self, alloc: Global, most: u64) -> io::Result<Vec<u8>> {

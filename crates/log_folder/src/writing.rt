@@ -5,12 +5,12 @@ ghost use Rattle.log_folder.specs.Deeds.{Append, IsFollowed, Opened, Sync, SyncN
 ghost use Rattle.log_folder.specs.Noting.{deeds_of};
 ghost use Rattle.log_folder.specs.Writing.{IsUnwritten, written};
 
-use crate::disk::{APPENDED, OPENED, SYNCED, SYNCED_NAMES, unopened};
+use crate::disk::{Disk, OPENED, SYNCED, SYNCED_NAMES};
 use crate::fault::WriteFault;
-use node_process::{Noted, sync_folder};
-use std::fs::{File, OpenOptions};
+use crate::folder::Folder;
+use node_process::sync_folder;
+use std::fs::OpenOptions;
 use std::io;
-use std::io::Write;
 use std::os::unix::fs::OpenOptionsExt;
 
 /// A file that is to be made. Whatever a call answers, it is noted as a deed.
@@ -59,81 +59,44 @@ pub fn write_new<F: NewFile>(file: &mut F, bytes: &[u8]) -> Result<(), WriteFaul
 /// The file of this name. Nobody else may read it: it has what was claimed for whom.
 #[derive(Drop)]
 pub struct OutFile<'a> {
-    rt: &'a HostRuntime,
-    path: &'a str,
-    file: Option<File>,
-    noted: Noted,
+    disk: Disk<'a>,
 }
 
 impl<'a> OutFile<'a> {
     /// Of this name, of which nothing was asked yet.
     pub fn new(rt: &'a HostRuntime, path: &'a str) -> OutFile<'a>
-        ensures { result.noted.notes ≡ [] }
+        ensures { result.disk.noted.notes ≡ [] }
     {
         OutFile {
-            rt,
-            path,
-            file: None,
-            noted: Noted::new(),
+            disk: Disk::new(rt, path),
         }
-    }
-
-    /// The file that was made.
-    fn file(&self) -> io::Result<&File> {
-        match &self.file {
-            Some(file) => Ok(file),
-            None => Err(unopened()),
-        }
-    }
-
-    /// Makes the file.
-    fn open_new(&mut self) -> io::Result<()>
-        ensures { self.new.noted ≡ self.old.noted }
-    {
-        let mut options = OpenOptions::new();
-        options.write(true).create_new(true).mode(0o600);
-        self.file = Some(options.open(self.rt, self.path)?);
-        Ok(())
-    }
-
-    /// Appends bytes.
-    fn append_all(&self, bytes: &[u8]) -> io::Result<()> {
-        let mut file = self.file()?;
-        file.write_all(bytes)
     }
 }
 
 impl<'a> NewFile for OutFile<'a> {
-    ghost deeds = { λ file. deeds_of file.noted.notes };
+    ghost deeds = { λ file. deeds_of file.disk.noted.notes };
 
     fn make(&mut self) -> io::Result<()> {
-        let answer = self.open_new();
-        self.noted
-            .note(&[OPENED, u64::from(answer.is_ok()), 0], &[]);
-        answer
+        let mut options = OpenOptions::new();
+        options.write(true).create_new(true).mode(0o600);
+        let answer = self.disk.open_as(&options);
+        self.disk.noted.answered(OPENED, 0, &[], answer)
     }
 
     fn append(&mut self, bytes: &[u8]) -> io::Result<()> {
-        let answer = self.append_all(bytes);
-        self.noted
-            .note(&[APPENDED, u64::from(answer.is_ok()), 0], bytes);
-        answer
+        self.disk.append(bytes)
     }
 
     fn sync(&mut self) -> io::Result<()> {
-        let answer = match self.file() {
+        let answer = match self.disk.file() {
             Ok(file) => file.sync_all(),
             Err(error) => Err(error),
         };
-        self.noted
-            .note(&[SYNCED, u64::from(answer.is_ok()), 0], &[]);
-        answer
+        self.disk.noted.answered(SYNCED, 0, &[], answer)
     }
 
     fn sync_names(&mut self) -> io::Result<()> {
-        let answer = sync_folder(self.rt, self.path);
-        self.noted
-            .note(&[SYNCED_NAMES, u64::from(answer.is_ok()), 0], &[]);
-        answer
+        let answer = sync_folder(self.disk.rt, self.disk.path);
+        self.disk.noted.answered(SYNCED_NAMES, 0, &[], answer)
     }
 }
