@@ -26,6 +26,7 @@ pub(crate) struct Asked {
 /// # Errors
 /// `Settings` where the settings are none; then `Line` of the first line that spells no fault and no command in its place;
 /// `OutOfMemory`.
+#[tactic(auto, using(std::proofs::lemmas::Result::err_from_is_err_and, crate::proofs::AskedRuns::asked_never))]
 pub(crate) fn asked_of(alloc: Global, keys: &HashKeys, input: &[u8]) -> Result<Asked, CheckFault>
     ensures opens { IfOk result (λ a. Opens (settings_text input.now) a.settings) }
     ensures asked { IfOk result (λ a. asked_in input.now ≡ Ok (run_seen a.run)) }

@@ -22,6 +22,7 @@ use world_setup::{Fault, Refusal};
 /// # Errors
 /// `Write`, where the commands after that line are not made; `OutOfMemory`. What was written is a beginning of the lines of
 /// the first commands.
+#[tactic(auto, using(crate::proofs::Turns::nothing_written, crate::proofs::CutOff::on_fault, crate::proofs::CutOff::stopped_between))]
 pub(crate) fn make_commands<T: Wait + Clock, K: Sink>(
     rt: &T,
     alloc: Global,
@@ -115,6 +116,7 @@ fn await_answer<T: Wait + Clock>(
 }
 
 /// Waits for the answer of a request at a till of this pharmacy.
+#[tactic(auto, using(std::proofs::lemmas::Result::on_ok_weaker, crate::proofs::Looks::answer_told, crate::proofs::Looks::open_told))]
 fn await_at<T: Wait + Clock>(
     told: &mut Vec<u8>,
     rt: &T,

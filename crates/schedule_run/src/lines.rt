@@ -15,6 +15,7 @@ use world_report::{end_line, put_mark, put_number, put_ruling, put_word};
 use world_setup::{Fault, Node};
 
 /// Appends the line of a command that was made, or of its refusal.
+#[tactic(auto, using(std::proofs::lemmas::Result::on_ok_weaker, crate::proofs::Words::refusal_told, crate::proofs::Words::on_ok_both))]
 pub(crate) fn put_outcome(out: &mut Vec<u8>, outcome: Result<(), Fault>) -> Result<(), AllocError>
     ensures { OnOk result ((line : Line) × AddsLine out.old out.new line × IsLineOf (λ _. done_line) outcome line) }
 {
@@ -25,6 +26,7 @@ pub(crate) fn put_outcome(out: &mut Vec<u8>, outcome: Result<(), Fault>) -> Resu
 }
 
 /// Appends the line of a submission: the number of its entry, or its refusal.
+#[tactic(auto, using(std::proofs::lemmas::Result::on_ok_weaker, crate::proofs::Words::refusal_told, crate::proofs::Words::on_ok_both))]
 pub(crate) fn put_submitted(
     out: &mut Vec<u8>,
     outcome: Result<u64, Fault>,
@@ -38,6 +40,7 @@ pub(crate) fn put_submitted(
 }
 
 /// Appends the line of what was made.
+#[tactic(auto, using(std::proofs::lemmas::Result::on_ok_weaker, world_report::proofs::JoinedWords::line_joins, world_report::proofs::JoinedWords::no_words))]
 pub(crate) fn put_done(out: &mut Vec<u8>) -> Result<(), AllocError>
     ensures { OnOk result (AddsLine out.old out.new done_line) }
 {
@@ -46,6 +49,7 @@ pub(crate) fn put_done(out: &mut Vec<u8>) -> Result<(), AllocError>
 }
 
 /// Appends the line of a submission that was taken.
+#[tactic(auto, using(std::proofs::lemmas::Result::on_ok_weaker, world_report::proofs::JoinedWords::line_joins))]
 fn put_entered(out: &mut Vec<u8>, number: u64) -> Result<(), AllocError>
     ensures { OnOk result (AddsLine out.old out.new (number_line number)) }
 {
@@ -67,6 +71,7 @@ fn put_fault(out: &mut Vec<u8>, fault: Fault) -> Result<(), AllocError>
 }
 
 /// Appends the line of a refusal.
+#[tactic(auto, using(std::proofs::lemmas::Result::on_ok_weaker, world_report::proofs::JoinedWords::line_joins))]
 pub(crate) fn put_refused(out: &mut Vec<u8>, name: &[u8]) -> Result<(), AllocError>
     ensures { OnOk result (AddsLine out.old out.new (refusal_line name.now)) }
 {
@@ -176,6 +181,7 @@ fn put_pharmacy(out: &mut Vec<u8>, pharmacy: u16) -> Result<(), AllocError>
 }
 
 /// Appends the number of a request, and the place where it has several.
+#[tactic(auto, using(std::proofs::lemmas::Result::on_ok_weaker, crate::proofs::Words::word_more))]
 fn put_place(out: &mut Vec<u8>, number: u64, place: u64, count: u64) -> Result<(), AllocError>
     ensures { OnOk result (AddsWords out.old out.new ((decimal number ++ place_mark count place) ∷ [])) }
 {

@@ -71,6 +71,7 @@ where
 ///
 /// # Errors
 /// Those of `run_schedule_keyed`.
+#[tactic(auto, using(std::proofs::lemmas::Result::err_from_is_err_and, crate::proofs::Endings::known_is, crate::proofs::CutOff::never_ran, crate::proofs::CutOff::refused_stops, crate::proofs::CutOff::unread_stops))]
 pub fn run_schedule_over<T, S: Source, K: Sink>(
     rt: &T,
     alloc: Global,
@@ -91,6 +92,7 @@ where
 }
 
 /// Starts the nodes, makes the commands, and writes the lines of all nodes.
+#[tactic(auto, using(crate::proofs::CutOff::asked_before, crate::proofs::CutOff::on_fault))]
 fn run_asked<T, K: Sink>(rt: &T, alloc: Global, asked: Asked, sink: &mut K) -> Result<(), RunFault>
 where
     T: Threads + Wait + Clock + Copy + Send + 'static,
@@ -113,6 +115,7 @@ where
 }
 
 /// Makes the commands, and ends the threads whatever came of that.
+#[tactic(auto, using(crate::proofs::CutOff::if_fault))]
 fn run_to_end<T, K: Sink>(
     rt: &T,
     alloc: Global,
@@ -139,6 +142,7 @@ where
 }
 
 /// Opens a till at each pharmacy, tells the faults of links, and makes the commands.
+#[tactic(auto, using(crate::proofs::CutOff::on_fault, crate::proofs::CutOff::stopped_before))]
 fn serve<T: Wait + Clock, K: Sink>(
     rt: &T,
     alloc: Global,

@@ -1,12 +1,9 @@
-use Rattle.std.proofs.Common.{[], ◌++◌, ◌+◌, refl, ◌∙◌}
+use Rattle.std.proofs.Common.{◌++◌, ◌+◌, refl, ◌∙◌}
 use Rattle.world_report.specs.Words.{lines_text}
 use Rattle.node_logged.specs.LedgerSeen.{tills_seen}
-use Rattle.schedule_run.proofs.Turns.{nothing_written, turn_told, written_more}
-use Rattle.schedule_run.proofs.CutOff.{on_fault, stopped_between, stopped_writing}
+use Rattle.schedule_run.proofs.Turns.{turn_told, written_more}
+use Rattle.schedule_run.proofs.CutOff.{on_fault, stopped_writing}
 use Rattle.schedule_run.proofs.commands.make_commands.Goals as goal
-
-pub loop-command-init : goal.loop-command-init
-loop-command-init g c = (([], nothing_written (g.K.Sink.contents c.args.sink.now), (refl, refl)), refl)
 
 pub loop-command-preserved : goal.loop-command-preserved
 loop-command-preserved g c =
@@ -21,12 +18,6 @@ loop-command-preserved g c =
       ),
       c.in_ok-write_output.ensures.same_reference ∙ c.loop-command.invariant.1,
     )
-
-pub returns-in_err-make_command-clause-cut_off : goal.returns-in_err-make_command-clause-cut_off
-returns-in_err-make_command-clause-cut_off g c =
-    let so_far = c.loop-command.invariant.0 in
-    on_fault c.from_residual.result
-    (stopped_between (g.K.Sink.contents c.args.sink.now) (g.K.Sink.contents c.loop-command.sink) c.args.commands.now c.loop-command.command-index (tills_seen c.args.tills.now) (tills_seen c.loop-command.tills) so_far.0 so_far.1 so_far.2)
 
 pub returns-in_err-write_output-clause-cut_off : goal.returns-in_err-write_output-clause-cut_off
 returns-in_err-write_output-clause-cut_off g c =

@@ -1,9 +1,9 @@
-use Rattle.std.proofs.Common.{◌++◌, inl, refl}
+use Rattle.std.proofs.Common.{◌++◌, refl}
 use Rattle.world_report.specs.Words.{lines_text}
 use Rattle.schedule_run.specs.Output.{node_lines}
 use Rattle.schedule_run.proofs.Turns.{written_more}
 use Rattle.schedule.specs.Runs.{run_seen}
-use Rattle.schedule_run.proofs.CutOff.{asked_before, on_fault, stopped_in_nodes}
+use Rattle.schedule_run.proofs.CutOff.{on_fault, stopped_in_nodes}
 use Rattle.schedule_run.proofs.running.run_asked.Goals as goal
 
 pub returns-clause-output : goal.returns-clause-output
@@ -19,15 +19,6 @@ returns-clause-output g c =
       },
       written_more _ _ _ ended.0 nodes ended.1 c.in_ok-write_nodes.ensures.all,
     )
-
-pub returns-in_err-gate-clause-stopped : goal.returns-in_err-gate-clause-stopped
-returns-in_err-gate-clause-stopped g c = on_fault c.from_residual.result (asked_before (g.K.Sink.contents c.args.sink.now) c.args.asked.settings (run_seen c.args.asked.run))
-
-pub returns-in_err-system-clause-stopped : goal.returns-in_err-system-clause-stopped
-returns-in_err-system-clause-stopped g c = on_fault c.from_residual-in_err-system.result (asked_before (g.K.Sink.contents c.args.sink.now) c.args.asked.settings (run_seen c.args.asked.run))
-
-pub returns-in_err-world-clause-stopped : goal.returns-in_err-world-clause-stopped
-returns-in_err-world-clause-stopped g c = let cut = c.in_err-world.ensures.cut_off in on_fault c.from_residual-in_err-world.result (cut.0, inl cut.1, cut.2)
 
 pub returns-in_err-write_nodes-clause-stopped : goal.returns-in_err-write_nodes-clause-stopped
 returns-in_err-write_nodes-clause-stopped g c =

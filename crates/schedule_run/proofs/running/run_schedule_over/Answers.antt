@@ -1,33 +1,14 @@
 use Rattle.std.proofs.Common.{◌≡◌, ◌≤◌, Result, length, ap, sym, ◌∙◌, arith}
 use Rattle.std.specs.Prelude.{is_ok}
-use Rattle.std.proofs.lemmas.Result.{err_from_is_err_and, on_err_weaker, on_ok_weaker, IfErr-weaker}
+use Rattle.std.proofs.lemmas.Result.{on_err_weaker, on_ok_weaker, IfErr-weaker}
 use Rattle.schedule.specs.Runs.{RunParts, run_seen}
 use Rattle.program_io.specs.declared.input.TheConstants.{MOST_INPUT}
 use Rattle.program_io.specs.declared.fault.InputFault.{InputFault}
-use Rattle.program_io.specs.Stops.{StopsFor, check_told}
 use Rattle.schedule_run.specs.Asked.{asked_in}
 use Rattle.schedule_run.specs.Output.{StopsRun}
 use Rattle.schedule_run.proofs.Endings.{known_is, started_stops}
-use Rattle.schedule_run.proofs.CutOff.{begun_by, never_ran, on_success, refused_stops, unread_stops}
+use Rattle.schedule_run.proofs.CutOff.{begun_by, on_success}
 use Rattle.schedule_run.proofs.running.run_schedule_over.Goals as goal
-
-pub returns-in_err-input-clause-runs : goal.returns-in_err-input-clause-runs
-returns-in_err-input-clause-runs g c =
-    let known = g.S.Source.remaining c.args.source.now in
-    let why = c.in_err-input.field-0.0 in
-    let p = err_from_is_err_and c.from_residual.result c.from_residual.ensures.1 in
-    rw (p.1, p.2) (never_ran known g.K.Sink.contents c.args.sink.now why (unread_stops why known c.in_err-input.ensures.faults))
-
-pub returns-in_err-asked-clause-runs : goal.returns-in_err-asked-clause-runs
-returns-in_err-asked-clause-runs g c =
-    let known = g.S.Source.remaining c.args.source.now in
-    let why = c.in_err-asked.field-0.0 in
-    let whole : length c.in_ok-input.input.items ≡ c.in_ok-input.input.len = sym (ap length c.as_slice.ensures.value) ∙ c.as_slice.ensures.len in
-    let within : length c.in_ok-input.input.items ≤ MOST_INPUT = omega (arith, c.in_ok-input.ensures.fits, whole) in
-    let refused = rw c.as_slice.ensures.value at c.in_err-asked.ensures.fault in
-    let p = err_from_is_err_and c.from_residual-in_err-asked.result c.from_residual-in_err-asked.ensures.1 in
-    rw (p.1, p.2) (never_ran known g.K.Sink.contents c.args.sink.now (check_told why)
-    (known_is (λ input. StopsFor (check_told why) input (asked_in input)) known c.in_ok-input.input.items c.in_ok-input.ensures.all (refused_stops why c.in_ok-input.input.items within refused)))
 
 pub returns-clause-runs : goal.returns-clause-runs
 returns-clause-runs g c =

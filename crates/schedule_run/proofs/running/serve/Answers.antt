@@ -4,7 +4,7 @@ use Rattle.world_report.specs.Words.{lines_text}
 use Rattle.schedule.specs.Runs.{run_seen}
 use Rattle.schedule_run.specs.Told.{done_line}
 use Rattle.schedule_run.proofs.Endings.{run_told}
-use Rattle.schedule_run.proofs.CutOff.{on_fault, stopped_before, stopped_in_commands, stopped_in_faults}
+use Rattle.schedule_run.proofs.CutOff.{on_fault, stopped_in_commands, stopped_in_faults}
 use Rattle.schedule_run.proofs.running.serve.Goals as goal
 
 pub returns-clause-told : goal.returns-clause-told
@@ -16,12 +16,6 @@ returns-clause-told g c =
     (run_told _ _ _ (run_seen c.args.run.now) items c.make_commands.new.tills c.open_tills.new.tills.len c.as_slice-2.result.now c.in_ok-open_tills.ensures
     (sym c.as_mut_slice.ensures.len ∙ ap length c.as_mut_slice.ensures.value) text c.in_ok-write_output.ensures.all)
     made
-
-pub returns-in_err-open_tills-clause-cut_off : goal.returns-in_err-open_tills-clause-cut_off
-returns-in_err-open_tills-clause-cut_off g c = on_fault c.from_residual.result (stopped_before (g.K.Sink.contents c.args.sink.now) (run_seen c.args.run.now))
-
-pub returns-in_err-told-clause-cut_off : goal.returns-in_err-told-clause-cut_off
-returns-in_err-told-clause-cut_off g c = on_fault c.from_residual-in_err-told.result (stopped_before (g.K.Sink.contents c.args.sink.now) (run_seen c.args.run.now))
 
 pub returns-in_err-write_output-clause-cut_off : goal.returns-in_err-write_output-clause-cut_off
 returns-in_err-write_output-clause-cut_off g c =
