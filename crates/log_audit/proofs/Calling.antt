@@ -1,24 +1,23 @@
 -- Logs that are read with what was noted of their calls, and the rows of these.
-use Rattle.std.proofs.Common.{◌≡◌, ℕ, ◌+◌, ◌<◌, List, [], ◌∷◌, ◌++◌, length, drop, get_or, map, ◌≤◌, sym, ap, ◌∙◌, subst, append-nil}
-use Rattle.std.proofs.lemmas.List.{at_drop_more, drop_all, length-map, map-append}
+use Rattle.std.proofs.Common.{◌≡◌, ℕ, ◌+◌, List, [], ◌∷◌, ◌++◌, length, map, sym, ap, ◌∙◌, subst, append-nil}
+use Rattle.std.proofs.lemmas.List.{length-map, map-append}
 use Rattle.std.proofs.lemmas.Grind.{flat_map-append}
 use Rattle.std.specs.Global.{Vec}
 use Rattle.std.specs.Prelude.{Err}
 use Rattle.claim_model.specs.Bytes.{bytes_with}
 use Rattle.claim_model.specs.Context.{Context}
-use Rattle.claim_model.specs.Node.{Node}
-use Rattle.kept_logs.specs.Stamps.{Stamped, KeptLog, bare}
+use Rattle.kept_logs.specs.Stamps.{KeptLog, bare}
 use Rattle.kept_logs.specs.Logs.{calls_alone, kept_in, log_in}
 use Rattle.kept_logs.specs.declared.fault.LogFault.{LogFault}
 use Rattle.table_text.specs.Members.{Row}
-use Rattle.table_text.specs.Rows.{row_text, rows_text, head_text}
+use Rattle.table_text.specs.Rows.{rows_text, head_text}
 use Rattle.table_text.specs.declared.layout.Style.TheVariants.{Csv}
 use Rattle.log_audit.specs.declared.fault.AuditFault.{AuditFault}
 use Rattle.log_audit.specs.declared.fault.AuditFault.TheVariants.{OutOfMemory, Settings, World, Log, Reference, NoLine}
 use Rattle.log_audit.specs.Given.{IsLog, AreLogs, bytes_of, read_by}
 use Rattle.log_audit.specs.Refused.{AreNoLogs}
-use Rattle.log_audit.specs.Calls.{IsKept, AreKept, IsNotKept, TellsLog, TellsLogs, call_names, call_row, call_rows, calls_csv, log_rows, logs_rows, submissions_in}
-use Rattle.log_audit.proofs.Joining.{block_goes_on, block_ends, no_rows, one_row, rows_join}
+use Rattle.log_audit.specs.Calls.{IsKept, AreKept, IsNotKept, TellsLog, TellsLogs, call_names, calls_csv, log_rows, logs_rows}
+use Rattle.log_audit.proofs.Joining.{no_rows, rows_join}
 use Rattle.log_audit.proofs.LogReading.{bytes_more}
 
 -- no log with what was noted is no log
@@ -81,31 +80,6 @@ no_log_told digest xs x more all old new place (Log here fault) is at told (same
 }
 no_log_told digest xs x more all old new place (Reference here call fault) is at told none = absurd none
 no_log_told digest xs x more all old new place NoLine is at told none = absurd none
-
--- a record more, and then those that are left
-row_goes_on : (ctx : Context) (node : Node) (n : ℕ) (a b whole : List ℕ) (xs : List Stamped) (i : ℕ) (x : Stamped) → i < length xs → x ≡ get_or xs i x
-    → b ≡ a ++ row_text Csv (call_row ctx node (i + 1) (n + submissions_in x.logged.call) x)
-    → a ++ rows_text Csv (call_rows ctx node (i + 1) n (drop i xs)) ≡ whole
-    → b ++ rows_text Csv (call_rows ctx node ((i + 1) + 1) (n + submissions_in x.logged.call) (drop (i + 1) xs)) ≡ whole
-row_goes_on ctx node n a b whole xs i x lt is one so_far =
-    let text = λ (left : List Stamped). a ++ rows_text Csv (call_rows ctx node (i + 1) n left) in
-    let more = drop (i + 1) xs in
-    let m = n + submissions_in x.logged.call in
-    let row = call_row ctx node (i + 1) m x in
-    block_goes_on Csv a b whole (row ∷ []) (call_rows ctx node ((i + 1) + 1) m more) (one_row Csv a b row one)
-    (ap (λ (y : Stamped). text (y ∷ more)) is ∙ (sym (at_drop_more text xs i x lt) ∙ so_far))
-
-pub rows_go_on : (ctx : Context) (node : Node) (n m : ℕ) (a b whole : List ℕ) (xs : List Stamped) (i : ℕ) (x : Stamped) → m ≡ n + submissions_in x.logged.call → i < length xs → x ≡ get_or xs i x
-    → b ≡ a ++ row_text Csv (call_row ctx node (i + 1) m x)
-    → a ++ rows_text Csv (call_rows ctx node (i + 1) n (drop i xs)) ≡ whole
-    → b ++ rows_text Csv (call_rows ctx node ((i + 1) + 1) m (drop (i + 1) xs)) ≡ whole
-rows_go_on ctx node n m a b whole xs i x same lt is one so_far =
-    subst (λ (k : ℕ). b ≡ a ++ row_text Csv (call_row ctx node (i + 1) k x) → b ++ rows_text Csv (call_rows ctx node ((i + 1) + 1) k (drop (i + 1) xs)) ≡ whole)
-    (sym same) (λ here. row_goes_on ctx node n a b whole xs i x lt is here so_far) one
-
-pub rows_are_done : (ctx : Context) (node : Node) (n : ℕ) (a whole : List ℕ) (xs : List Stamped) (i : ℕ) → length xs ≤ i → a ++ rows_text Csv (call_rows ctx node (i + 1) n (drop i xs)) ≡ whole → a ≡ whole
-rows_are_done ctx node n a whole xs i le so_far =
-    block_ends Csv a whole (sym (ap (λ (left : List Stamped). a ++ rows_text Csv (call_rows ctx node (i + 1) n left)) (drop_all i xs le)) ∙ so_far)
 
 -- names, and rows after them
 pub table_is : (ctx : Context) (logs : List KeptLog) (none names out : List ℕ) → none ≡ [] → names ≡ none ++ head_text call_names → out ≡ names ++ rows_text Csv (logs_rows ctx logs) → out ≡ calls_csv ctx logs

@@ -57,9 +57,6 @@ left_whole s log after there m =
 
 -- nodes by their numbers
 
-pub none_by_number : {A : Type 0} (s : WorldSettings) (logs : List NodeLog) (name : ℕ → Node) (kind : A → AnyNode) (found : ℕ → Option A) → ((n : ℕ) → found n ≡ None) → EachStands s logs name kind found
-none_by_number s logs name kind found none n node is = let wrong : None ≡ Some node = sym (none n) ∙ is in absurd cc
-
 pub kind_enters : {A : Type 0} (s : WorldSettings) (logs : List NodeLog) (name : ℕ → Node) (kind : A → AnyNode) (found after : ℕ → Option A) (number : ℕ) (node : A) → Enters found number node after
     → StandsBy s logs (name number) (kind node) → EachStands s logs name kind found → EachStands s logs name kind after
 kind_enters {A} s logs name kind found after number node enters stands each n a is = elim (enters n a is) [

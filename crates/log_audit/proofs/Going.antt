@@ -5,9 +5,7 @@ use Rattle.std.proofs.lemmas.Grind.{flat_map-append}
 use Rattle.claim_model.specs.Logs.{NodeLog}
 use Rattle.log_audit.specs.Sentences.{told_line, told_lines}
 use Rattle.log_audit.specs.Lacks.{lack_lines, lacks_up_to, kind_node}
-use Rattle.log_audit.specs.Ledger.{paid_up_to, paid_text}
 use Rattle.log_audit.specs.declared.judging.missing.NodeKind.{NodeKind}
-use Rattle.log_audit.specs.declared.report.paid.PaidOnce.{PaidOnce}
 use Rattle.log_audit.specs.declared.sentences.Manner.{Manner}
 
 -- what is said of the elements from a place on, is said of the one there and those after it
@@ -39,11 +37,3 @@ pub lacks_more : (manner : Manner) (logs : List NodeLog) (kind : NodeKind) (numb
 lacks_more manner logs kind number a b c one two =
     lines_join manner a b c (lacks_up_to logs kind number) (lack_lines logs (kind_node kind (number + 1))) one two
     ∙ ap (λ (n : ℕ). a ++ told_lines manner (lacks_up_to logs kind n)) (sym (add-one number))
-
--- the line of one pharmacy more that a payer paid
-pub paid_more : (number : ℕ) (paid : List PaidOnce) (pharmacy : ℕ) (a b c : List ℕ) → b ≡ a ++ paid_up_to number paid pharmacy → c ≡ b ++ paid_text number paid (pharmacy + 1)
-    → c ≡ a ++ paid_up_to number paid (pharmacy + 1)
-paid_more number paid pharmacy a b c one two =
-    two ∙ (ap (λ (t : List ℕ). t ++ paid_text number paid (pharmacy + 1)) one
-    ∙ (append_assoc a (paid_up_to number paid pharmacy) (paid_text number paid (pharmacy + 1))
-    ∙ ap (λ (n : ℕ). a ++ paid_up_to number paid n) (sym (add-one pharmacy))))

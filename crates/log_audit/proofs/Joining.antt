@@ -1,14 +1,14 @@
 -- How rows follow one another, and how loops over lists go on and end.
-use Rattle.std.proofs.Common.{◌≡◌, ℕ, ◌+◌, ◌<◌, ◌≤◌, Bool, true, false, cond, List, [], ◌∷◌, ◌++◌, length, drop, get_or, map, refl, sym, ap, ◌∙◌, append_assoc, append-nil}
+use Rattle.std.proofs.Common.{◌≡◌, ℕ, ◌+◌, ◌<◌, ◌≤◌, List, [], ◌∷◌, ◌++◌, length, drop, get_or, refl, sym, ap, ◌∙◌, append_assoc, append-nil}
 use Rattle.std.specs.Prelude.{Option, Some, None}
 use Rattle.std.specs.List.{flat_map}
-use Rattle.std.proofs.lemmas.List.{at_drop_more, drop_all}
+use Rattle.std.proofs.lemmas.List.{drop_all}
 use Rattle.std.proofs.lemmas.Grind.{flat_map-append}
 use Rattle.table_text.specs.declared.layout.Style.{Style}
 use Rattle.table_text.specs.Members.{Row}
 use Rattle.table_text.specs.Rows.{row_text, rows_text}
-use Rattle.log_audit.specs.Payments.{told_from}
 use Rattle.log_audit.specs.Lones.{told_of}
+use Rattle.log_audit.proofs.Going.{left_at}
 
 pub cons_alike : {A : Type 0} {x y : A} {xs ys : List A} → x ≡ y → xs ≡ ys → (x ∷ xs) ≡ (y ∷ ys)
 cons_alike e es = cc
@@ -44,67 +44,22 @@ block_goes_on style a b whole block more one so_far = rows_join style a b (b ++ 
 pub block_ends : (style : Style) (a whole : List ℕ) → a ++ rows_text style [] ≡ whole → a ≡ whole
 block_ends style a whole so_far = no_rows style a ∙ so_far
 
--- loops with several rows for each element
+-- loops: the rows of the elements that are left are those of the next one, and of the others
+pub rows_go_on : {A : Type 0} (style : Style) (left : List A → List Row) (block more : List Row) (a b whole : List ℕ) (xs : List A) (i : ℕ) (x : A) → i < length xs → x ≡ get_or xs i x
+    → left (x ∷ drop (i + 1) xs) ≡ block ++ more → b ≡ a ++ rows_text style block → a ++ rows_text style (left (drop i xs)) ≡ whole → b ++ rows_text style more ≡ whole
+rows_go_on style left block more a b whole xs i x lt is split one so_far =
+    block_goes_on style a b whole block more one (ap (λ (rows : List Row). a ++ rows_text style rows) (sym (left_at left xs i x lt is ∙ split)) ∙ so_far)
+
+pub rows_are_done : {A : Type 0} (style : Style) (left : List A → List Row) (a whole : List ℕ) (xs : List A) (i : ℕ) → length xs ≤ i → left [] ≡ [] → a ++ rows_text style (left (drop i xs)) ≡ whole → a ≡ whole
+rows_are_done style left a whole xs i le none so_far = block_ends style a whole (ap (λ (rows : List Row). a ++ rows_text style rows) (sym (ap left (drop_all i xs le) ∙ none)) ∙ so_far)
+
+-- with several rows for each element
 pub blocks_go_on : {A : Type 0} (style : Style) (told : A → List Row) (a b whole : List ℕ) (xs : List A) (i : ℕ) (x : A) → i < length xs → x ≡ get_or xs i x → b ≡ a ++ rows_text style (told x)
     → a ++ rows_text style (flat_map told (drop i xs)) ≡ whole → b ++ rows_text style (flat_map told (drop (i + 1) xs)) ≡ whole
-blocks_go_on {A} style told a b whole xs i x lt is one so_far =
-    let text = λ (left : List A). a ++ rows_text style (flat_map told left) in
-    let more = drop (i + 1) xs in
-    block_goes_on style a b whole (told x) (flat_map told more) one (ap (λ (y : A). text (y ∷ more)) is ∙ (sym (at_drop_more text xs i x lt) ∙ so_far))
+blocks_go_on style told a b whole xs i x lt is one so_far = rows_go_on style (flat_map told) (told x) (flat_map told (drop (i + 1) xs)) a b whole xs i x lt is refl one so_far
 
 pub blocks_are_done : {A : Type 0} (style : Style) (told : A → List Row) (a whole : List ℕ) (xs : List A) (i : ℕ) → length xs ≤ i → a ++ rows_text style (flat_map told (drop i xs)) ≡ whole → a ≡ whole
-blocks_are_done {A} style told a whole xs i le so_far =
-    block_ends style a whole (sym (ap (λ (left : List A). a ++ rows_text style (flat_map told left)) (drop_all i xs le)) ∙ so_far)
-
--- loops over what has numbers from 1
-pub told_goes_on : {A : Type 0} (style : Style) (told : ℕ → A → List Row) (a b whole : List ℕ) (xs : List A) (i : ℕ) (x : A) → i < length xs → x ≡ get_or xs i x
-    → b ≡ a ++ rows_text style (told (i + 1) x)
-    → a ++ rows_text style (told_from told (i + 1) (drop i xs)) ≡ whole → b ++ rows_text style (told_from told ((i + 1) + 1) (drop (i + 1) xs)) ≡ whole
-told_goes_on {A} style told a b whole xs i x lt is one so_far =
-    let text = λ (left : List A). a ++ rows_text style (told_from told (i + 1) left) in
-    let more = drop (i + 1) xs in
-    block_goes_on style a b whole (told (i + 1) x) (told_from told ((i + 1) + 1) more) one (ap (λ (y : A). text (y ∷ more)) is ∙ (sym (at_drop_more text xs i x lt) ∙ so_far))
-
-pub told_is_done : {A : Type 0} (style : Style) (told : ℕ → A → List Row) (a whole : List ℕ) (xs : List A) (i : ℕ) → length xs ≤ i
-    → a ++ rows_text style (told_from told (i + 1) (drop i xs)) ≡ whole → a ≡ whole
-told_is_done {A} style told a whole xs i le so_far =
-    block_ends style a whole (sym (ap (λ (left : List A). a ++ rows_text style (told_from told (i + 1) left)) (drop_all i xs le)) ∙ so_far)
-
--- the same over what the model sees of the elements
-pub seen_goes_on : {A B : Type 0} (style : Style) (see : A → B) (told : ℕ → B → List Row) (a b whole : List ℕ) (xs : List A) (i : ℕ) (x : A) → i < length xs → x ≡ get_or xs i x
-    → b ≡ a ++ rows_text style (told (i + 1) (see x))
-    → a ++ rows_text style (told_from told (i + 1) (map see (drop i xs))) ≡ whole → b ++ rows_text style (told_from told ((i + 1) + 1) (map see (drop (i + 1) xs))) ≡ whole
-seen_goes_on {A} style see told a b whole xs i x lt is one so_far =
-    let text = λ (left : List A). a ++ rows_text style (told_from told (i + 1) (map see left)) in
-    let more = drop (i + 1) xs in
-    block_goes_on style a b whole (told (i + 1) (see x)) (told_from told ((i + 1) + 1) (map see more)) one (ap (λ (y : A). text (y ∷ more)) is ∙ (sym (at_drop_more text xs i x lt) ∙ so_far))
-
-pub seen_is_done : {A B : Type 0} (style : Style) (see : A → B) (told : ℕ → B → List Row) (a whole : List ℕ) (xs : List A) (i : ℕ) → length xs ≤ i
-    → a ++ rows_text style (told_from told (i + 1) (map see (drop i xs))) ≡ whole → a ≡ whole
-seen_is_done {A} style see told a whole xs i le so_far =
-    block_ends style a whole (sym (ap (λ (left : List A). a ++ rows_text style (told_from told (i + 1) (map see left))) (drop_all i xs le)) ∙ so_far)
-
--- loops with several rows for each element, as it is seen
-pub seen_blocks_go_on : {A B : Type 0} (style : Style) (see : A → B) (told : B → List Row) (a b whole : List ℕ) (xs : List A) (i : ℕ) (x : A) → i < length xs → x ≡ get_or xs i x
-    → b ≡ a ++ rows_text style (told (see x)) → a ++ rows_text style (flat_map told (map see (drop i xs))) ≡ whole → b ++ rows_text style (flat_map told (map see (drop (i + 1) xs))) ≡ whole
-seen_blocks_go_on {A} style see told a b whole xs i x lt is one so_far =
-    let text = λ (left : List A). a ++ rows_text style (flat_map told (map see left)) in
-    let more = drop (i + 1) xs in
-    block_goes_on style a b whole (told (see x)) (flat_map told (map see more)) one (ap (λ (y : A). text (y ∷ more)) is ∙ (sym (at_drop_more text xs i x lt) ∙ so_far))
-
-pub seen_blocks_are_done : {A B : Type 0} (style : Style) (see : A → B) (told : B → List Row) (a whole : List ℕ) (xs : List A) (i : ℕ) → length xs ≤ i
-    → a ++ rows_text style (flat_map told (map see (drop i xs))) ≡ whole → a ≡ whole
-seen_blocks_are_done {A} style see told a whole xs i le so_far =
-    block_ends style a whole (sym (ap (λ (left : List A). a ++ rows_text style (flat_map told (map see left))) (drop_all i xs le)) ∙ so_far)
-
--- loops with a text for each element, as it is seen
-pub seen_texts_go_on : {A B C : Type 0} (see : A → B) (told : B → List C) (a b whole : List C) (xs : List A) (i : ℕ) (x : A) → i < length xs → x ≡ get_or xs i x
-    → b ≡ a ++ told (see x) → a ++ flat_map told (map see (drop i xs)) ≡ whole → b ++ flat_map told (map see (drop (i + 1) xs)) ≡ whole
-seen_texts_go_on {A} {B} {C} see told a b whole xs i x lt is one so_far =
-    let text = λ (left : List A). a ++ flat_map told (map see left) in
-    let more = drop (i + 1) xs in
-    ap (λ (t : List C). t ++ flat_map told (map see more)) one ∙ (append_assoc a (told (see x)) (flat_map told (map see more))
-    ∙ (ap (λ (y : A). text (y ∷ more)) is ∙ (sym (at_drop_more text xs i x lt) ∙ so_far)))
+blocks_are_done style told a whole xs i le so_far = rows_are_done style (flat_map told) a whole xs i le refl so_far
 
 -- nothing is told of what is not there
 pub nothing_told : {A : Type 0} (style : Style) (told : A → List Row) (a : List ℕ) (found of : Option A) → found ≡ of → found ≡ None → a ≡ a ++ rows_text style (told_of told of)
@@ -112,12 +67,3 @@ nothing_told {A} style told a found of is none = no_rows style a ∙ ap (λ (o :
 
 pub something_told : {A B : Type 0} (told : A → List B) (found of : Option A) (x : A) → found ≡ of → found ≡ Some x → told_of told of ≡ told x
 something_told {A} told found of x is some = ap (told_of told) (sym is ∙ some)
-
--- a row where a test holds, and none where it does not
-pub row_if : (style : Style) (a b : List ℕ) (t : Bool) (row : Row) → t ≡ true → b ≡ a ++ row_text style row → b ≡ a ++ rows_text style (cond t (row ∷ []) [])
-row_if style a b true row holds one = one_row style a b row one
-row_if style a b false row holds one = cc
-
-pub none_if : (style : Style) (a : List ℕ) (t : Bool) (row : Row) → t ≡ false → a ≡ a ++ rows_text style (cond t (row ∷ []) [])
-none_if style a true row fails = cc
-none_if style a false row fails = no_rows style a

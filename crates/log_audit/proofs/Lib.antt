@@ -1,6 +1,5 @@
 pub mod Joining
 pub mod Running
-pub mod Entering
 pub mod Authorizations
 pub mod Naming
 pub mod Leaving

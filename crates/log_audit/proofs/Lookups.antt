@@ -1,5 +1,5 @@
 -- References as they are looked up, and as they follow one another.
-use Rattle.std.proofs.Common.{◌≡◌, ℕ, ◌+◌, ◌<◌, ◌≤◌, ◌==◌, Bool, true, false, cond, ◌||◌, List, [], ◌∷◌, ◌++◌, length, map, drop, get_or, Option, Some, None, refl, sym, ap, ◌∙◌, subst}
+use Rattle.std.proofs.Common.{◌≡◌, ℕ, ◌+◌, ◌==◌, Bool, true, false, cond, ◌||◌, List, [], ◌∷◌, ◌++◌, length, Option, Some, None, refl, sym, ap, ◌∙◌}
 use Rattle.std.specs.Prelude.{bytes_eq, Result, Ok, Err, IfOk}
 use Rattle.std.specs.List.{list_any}
 use Rattle.std.specs.Ordering.{nat_cmp, is_eq, match_ordering}
@@ -8,11 +8,9 @@ use Rattle.std.specs.BTreeSet.{insert_key}
 use Rattle.std.specs.Cmp.Lexicographic.{slice_cmp, texts_ties}
 use Rattle.std.specs.declared.cmp.Ordering.{Ordering}
 use Rattle.std.specs.declared.cmp.Ordering.TheVariants.{Less, Equal, Greater}
-use Rattle.std.proofs.lemmas.List.{at_drop_more, drop_all}
 use Rattle.claim_model.proofs.Tests.{bytes_same}
 use Rattle.kept_logs.specs.References.{Reference}
-use Rattle.kept_logs.specs.Stamps.{Stamped}
-use Rattle.log_audit.specs.Names.{Use, fault_of, first_misnamed, is_submission, noted, or_more, use_before, uses_before, uses_from}
+use Rattle.log_audit.specs.Names.{Use, fault_of, first_misnamed, noted, or_more, uses_before}
 use Rattle.log_audit.specs.NamesSeen.{Finds, all_noted, first_sorted, known_in, noted_in}
 use Rattle.log_audit.specs.declared.fault.ReferenceFault.{ReferenceFault}
 use Rattle.log_audit.specs.declared.reading.referring.Misnamed.{Misnamed}

@@ -1,5 +1,5 @@
 -- Pieces that are filled and put, and lists that end.
-use Rattle.std.proofs.Common.{◌≡◌, ℕ, ◌-◌, Bool, true, false, cond, List, [], ◌∷◌, ◌++◌, length, take, sym, ap, ◌∙◌, append_assoc, append-nil, length-append, arith}
+use Rattle.std.proofs.Common.{◌≡◌, ℕ, ◌-◌, List, [], ◌∷◌, ◌++◌, length, take, sym, ap, ◌∙◌, append_assoc, append-nil, length-append, arith}
 use Rattle.std.specs.Prelude.{codes}
 use Rattle.std.specs.List.{flat_map}
 use Rattle.std.proofs.lemmas.List.{take-append-le, take_all}
@@ -13,15 +13,6 @@ use Rattle.log_audit.proofs.Commas.{comma_inside}
 pub piece_put : (a b piece filled slice text : List ℕ) → piece ≡ [] → filled ≡ piece ++ text → slice ≡ filled → b ≡ a ++ slice → b ≡ a ++ text
 piece_put a b piece filled slice text none fills is put =
     put ∙ ap (λ (t : List ℕ). a ++ t) (is ∙ (fills ∙ ap (λ (t : List ℕ). t ++ text) none))
-
--- a text that is put where a test holds, and nothing where it does not
-pub put_if : (a b : List ℕ) (t : Bool) (text : List ℕ) → t ≡ true → b ≡ a ++ text → b ≡ a ++ cond t text []
-put_if a b true text holds put = put
-put_if a b false text holds put = cc
-
-pub put_no : (a : List ℕ) (t : Bool) (text : List ℕ) → t ≡ false → a ≡ a ++ cond t text []
-put_no a true text fails = cc
-put_no a false text fails = sym (append-nil a)
 
 -- a row ends in a comma, and so do rows
 row_ends : (row : Row) → json_row row ≡ (codes "\n{" ++ (separated json_member row ++ codes "}")) ++ codes ","

@@ -75,6 +75,3 @@ or_else_first manner text (line ∷ more) others is some = is
 pub told_unless : (manner : Manner) (b : Bool) (line : List ℕ) → b ≡ false → told_lines manner (cond b [] (line ∷ [])) ≡ told_line manner line
 told_unless manner true line is = cc
 told_unless manner false line is = append-nil (told_line manner line)
-
-pub told_one : (manner : Manner) (line : List ℕ) → told_lines manner (line ∷ []) ≡ told_line manner line
-told_one manner line = append-nil (told_line manner line)

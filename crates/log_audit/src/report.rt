@@ -6,7 +6,7 @@ pub(crate) mod object;
 pub(crate) mod paid;
 pub(crate) mod scheduling;
 
-ghost use Rattle.std.specs.Prelude.{◌≡◌, ◌++◌, true, false, codes, map, IfOk, IsOkAnd, OnOk};
+ghost use Rattle.std.specs.Prelude.{◌≡◌, ◌++◌, codes, map, IfOk, IsOkAnd, OnOk};
 ghost use Rattle.world_setup.specs.Seen.{event_seen};
 ghost use Rattle.node_log.specs.LogSeen.{log_seen, logs_seen};
 ghost use Rattle.table_text.specs.Adding.{Adds};

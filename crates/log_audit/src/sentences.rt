@@ -1,6 +1,6 @@
 //! Lines that people read, as lists of pieces.
 
-ghost use Rattle.std.specs.Prelude.{◌≡◌, ◌++◌, map, OnOk};
+ghost use Rattle.std.specs.Prelude.{◌≡◌, map, OnOk};
 ghost use Rattle.world_setup.specs.Seen.{node_seen};
 ghost use Rattle.table_text.specs.Adding.{Adds};
 ghost use Rattle.log_audit.specs.Sentences.{node_word, node_text, piece_text, sentence, told_line};

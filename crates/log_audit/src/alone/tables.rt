@@ -15,9 +15,8 @@ ghost use Rattle.log_audit.specs.AloneSeen.{lone_seen, lones_seen};
 ghost use Rattle.log_audit.specs.Kinds.{number_of};
 ghost use Rattle.log_audit.specs.Ledger.{is_open};
 ghost use Rattle.log_audit.specs.Lones.{told_of, open_row, open_rows, journal_open, node_rows, rows_of, counted_in, is_counted, lone_rows};
-ghost use Rattle.log_audit.specs.Payments.{book_payments};
-ghost use Rattle.log_audit.specs.Rulings.{book_rulings};
-ghost use Rattle.log_audit.specs.Tables.{Joins, names_auth, journal_counted, journal_rows};
+ghost use Rattle.log_audit.specs.TabledSeen.{book_rows, told_rows};
+ghost use Rattle.log_audit.specs.Tables.{Joins, names_auth};
 ghost use Rattle.log_audit.specs.Outgoing.{PutsRows, TellsPut};
 
 use crate::alone::ages::Ages;
@@ -25,12 +24,8 @@ use crate::alone::log::{Came, Lone};
 use crate::outgoing::{Outgoing, TextSink};
 use crate::report::ledger::is_open;
 use crate::tables::counted::take_journal;
-use crate::tables::counting::put_journal_counted;
-use crate::tables::entries::put_journal;
 use crate::tables::kinds::{kind_word, number_of};
-use crate::tables::payments::put_book_payments;
-use crate::tables::rows::put_book_rulings;
-use crate::tables::table::Table;
+use crate::tables::table::{OfBook, OfJournal, Table, put_of_book, put_of_journal};
 use claim_profile::Auth;
 use node_log::NodeLog;
 use node_state::{JournalReading, NodeState};
@@ -137,96 +132,49 @@ fn put_node<K: TextSink + Drop>(
         (λ ctx. node_rows ctx (has_auth counted.now.keys) table (log_seen log.now) node.now) result }
 {
     match table {
-        Table::Payments => put_payments(alloc, out, style, node, counted),
-        Table::Entries => put_entries(alloc, out, style, node),
-        Table::Rows => put_rows(alloc, out, style, node),
+        Table::Payments => put_book(alloc, out, style, node, OfBook::Payments(counted)),
+        Table::Entries => put_journal(alloc, out, style, node, OfJournal::Entries),
+        Table::Rows => put_book(alloc, out, style, node, OfBook::Rulings),
         Table::Packets => Ok(()),
-        Table::Open => put_open_of(alloc, out, style, log, node),
-        Table::Counted => put_counted(alloc, out, style, node),
+        Table::Open => put_journal(alloc, out, style, node, OfJournal::Open(log)),
+        Table::Counted => put_journal(alloc, out, style, node, OfJournal::Counted),
     }
 }
 
-/// Appends the payments of a payer.
-fn put_payments<K: TextSink + Drop>(
+/// Appends the rows of a payer's book.
+fn put_book<K: TextSink + Drop>(
     alloc: Global,
     out: &mut Outgoing<K>,
     style: Style,
     node: &NodeState,
-    counted: &BTreeSet<Auth>,
+    of: OfBook<'_>,
 ) -> Result<(), AllocError>
-    ensures { TellsPut style out.old out.new
-        (λ ctx. told_of (book_payments ctx (has_auth counted.now.keys)) (book_of node.now)) result }
+    ensures { TellsPut style out.old out.new (λ ctx. told_of (book_rows ctx of.entry) (book_of node.now)) result }
 {
     match node.book(alloc)? {
-        Some(reading) => put_book_payments(out, style, reading.book(), counted),
+        Some(reading) => put_of_book(out, style, reading.book(), of),
         None => Ok(()),
     }
 }
 
-/// Appends the transactions of a payer.
-fn put_rows<K: TextSink + Drop>(
+/// Appends the rows of a pharmacy's journal.
+fn put_journal<K: TextSink + Drop>(
     alloc: Global,
     out: &mut Outgoing<K>,
     style: Style,
     node: &NodeState,
+    of: OfJournal<'_>,
 ) -> Result<(), AllocError>
-    ensures { OnOk result (PutsRows style out.old out.new (told_of book_rulings (book_of node.now))) }
-{
-    match node.book(alloc)? {
-        Some(reading) => put_book_rulings(out, style, reading.book()),
-        None => Ok(()),
-    }
-}
-
-/// Appends the entries of a pharmacy.
-fn put_entries<K: TextSink + Drop>(
-    alloc: Global,
-    out: &mut Outgoing<K>,
-    style: Style,
-    node: &NodeState,
-) -> Result<(), AllocError>
-    ensures { TellsPut style out.old out.new (λ ctx. told_of (journal_rows ctx) (journal_of node.now)) result }
+    ensures { TellsPut style out.old out.new (λ ctx. told_of (told_rows ctx of.entry) (journal_of node.now)) result }
 {
     match node.journal(alloc)? {
-        Some(journal) => put_journal(out, style, &journal),
-        None => Ok(()),
-    }
-}
-
-/// Appends the payments that a pharmacy counts.
-fn put_counted<K: TextSink + Drop>(
-    alloc: Global,
-    out: &mut Outgoing<K>,
-    style: Style,
-    node: &NodeState,
-) -> Result<(), AllocError>
-    ensures { TellsPut style out.old out.new (λ ctx. told_of (journal_counted ctx) (journal_of node.now)) result }
-{
-    match node.journal(alloc)? {
-        Some(journal) => put_journal_counted(out, style, &journal),
-        None => Ok(()),
-    }
-}
-
-/// Appends the entries without an answer of a pharmacy.
-fn put_open_of<K: TextSink + Drop>(
-    alloc: Global,
-    out: &mut Outgoing<K>,
-    style: Style,
-    log: &NodeLog,
-    node: &NodeState,
-) -> Result<(), AllocError>
-    ensures { OnOk result (PutsRows style out.old out.new
-        (told_of (journal_open (number_of (node_seen log.now.node)) log.now.calls.items) (journal_of node.now))) }
-{
-    match node.journal(alloc)? {
-        Some(journal) => put_open(alloc, out, style, log, &journal),
+        Some(journal) => put_of_journal(alloc, out, style, &journal, of),
         None => Ok(()),
     }
 }
 
 /// Appends a row for each entry of a journal without an answer.
-fn put_open<K: TextSink + Drop>(
+pub(crate) fn put_open<K: TextSink + Drop>(
     alloc: Global,
     out: &mut Outgoing<K>,
     style: Style,

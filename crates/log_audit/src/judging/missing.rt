@@ -5,7 +5,7 @@ ghost use Rattle.world_setup.specs.Seen.{node_seen, settings_seen};
 ghost use Rattle.node_log.specs.LogSeen.{log_seen, logs_seen};
 ghost use Rattle.log_audit.specs.Adding.{AddsLine, AddsLines};
 ghost use Rattle.log_audit.specs.Sentences.{told_lines};
-ghost use Rattle.log_audit.specs.Lacks.{count_of, lack_of, lack_word, line_of_lack, lack_lines, node_line, kind_node, lacks_up_to, stranger_lines, strangers, missing_lines};
+ghost use Rattle.log_audit.specs.Lacks.{count_of, lack_of, lack_word, lack_lines, node_line, kind_node, lacks_up_to, stranger_lines, strangers, missing_lines};
 
 use crate::sentences::{Manner, Piece, put_pieces, put_told};
 use node_log::{NodeLog, is_there};

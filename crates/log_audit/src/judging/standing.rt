@@ -1,6 +1,6 @@
 //! All nodes of settings as their logs leave them, each call made once.
 
-ghost use Rattle.std.specs.Prelude.{◌≡◌, List, IfOk, IfSome, IsTrue};
+ghost use Rattle.std.specs.Prelude.{List, IfOk, IfSome, IsTrue};
 ghost use Rattle.std.specs.BTreeMap.{get};
 ghost use Rattle.std.specs.Ordering.{nat_cmp};
 ghost use Rattle.claim_model.specs.Logs as model;

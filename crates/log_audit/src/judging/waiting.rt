@@ -6,11 +6,11 @@ ghost use Rattle.std.specs.Option.{option_copied};
 ghost use Rattle.bin_routes.specs.Table.{RouteMaps};
 ghost use Rattle.claim_model.specs.Bytes.{bytes_with};
 ghost use Rattle.world_setup.specs.Seen.{node_seen, call_seen, sent_seen};
-ghost use Rattle.node_log.specs.LogSeen.{log_seen, logs_seen};
+ghost use Rattle.node_log.specs.LogSeen.{logs_seen};
 ghost use Rattle.table_text.specs.Adding.{Adds};
 ghost use Rattle.log_audit.specs.Adding.{Tells};
 ghost use Rattle.log_audit.specs.Sentences.{sentence, told_line, told_lines};
-ghost use Rattle.log_audit.specs.Waits.{Progress as ProgressSeen, is_packet, has_sent, sent_before, sent_ever, waits, next_waits, is_held, has_next, is_stuck, kind_words, packet_pieces, sent_words, sender_pieces, taken_text, wait_text, wait_line, held_lines, unordered, waiting_lines, IsWaitingText};
+ghost use Rattle.log_audit.specs.Waits.{Progress as ProgressSeen, is_packet, has_sent, sent_before, sent_ever, waits, is_held, has_next, is_stuck, kind_words, packet_pieces, sent_words, sender_pieces, taken_text, wait_text, wait_line, held_lines, waiting_lines, IsWaitingText};
 ghost use Rattle.log_audit.specs.WaitsSeen.{progress_seen};
 
 use crate::judging::walking::calls_that_go;

@@ -1,11 +1,8 @@
 //! What a run left, counted: requests, payments and cents.
 
-ghost use Rattle.std.specs.Prelude.{◌≡◌, ◌++◌, length, count_by, IfOk, OnOk};
-ghost use Rattle.pharmacy_journal.specs.Listing.{listed};
-ghost use Rattle.claim_model.specs.Counted.{counted};
+ghost use Rattle.std.specs.Prelude.{◌≡◌, ◌++◌, count_by, IfOk, OnOk};
 ghost use Rattle.world_core.specs.Parts.{context_of};
 ghost use Rattle.table_text.specs.Adding.{Adds};
-ghost use Rattle.log_audit.specs.Adding.{Tells};
 ghost use Rattle.log_audit.specs.Sentences.{sentence};
 ghost use Rattle.log_audit.specs.Texts.{texts_from};
 ghost use Rattle.log_audit.specs.Ledger.{in_cents, counted_total, is_open, is_answered, stands, count_standing, requests_pieces, standing_pieces, pharmacy_text, node_requests, ledger_text};
@@ -143,7 +140,7 @@ pub(crate) fn is_open(entry: &EntryView) -> bool
 }
 
 /// What counted payments come to in cents, as far as 64 bits hold it.
-fn cents_of(paid: &[CountedPayment]) -> u64
+pub(crate) fn cents_of(paid: &[CountedPayment]) -> u64
     ensures { result ≡ in_cents (counted_total paid.now) }
 {
     let mut cents = 0u64;

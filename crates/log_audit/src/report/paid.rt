@@ -1,16 +1,15 @@
 //! What payers paid, counted: by pharmacy, and in all.
 
-ghost use Rattle.std.specs.Prelude.{◌≡◌, ◌++◌, length, count_by, cond, IfOk, OnOk};
-ghost use Rattle.std.specs.List.{flat_map, list_any};
+ghost use Rattle.std.specs.Prelude.{◌≡◌, ◌++◌, count_by, cond, IfOk, OnOk};
+ghost use Rattle.std.specs.List.{list_any};
 ghost use Rattle.bin_routes.specs.Table.{RouteMaps};
 ghost use Rattle.claim_model.specs.Bytes.{bytes_with};
 ghost use Rattle.claim_model.specs.Payments.{payment_of};
 ghost use Rattle.claim_model.specs.Rows.{ruled_rows};
 ghost use Rattle.table_text.specs.Adding.{Adds};
 ghost use Rattle.log_audit.specs.Adding.{Tells, Joined};
-ghost use Rattle.log_audit.specs.Sentences.{sentence};
 ghost use Rattle.log_audit.specs.Texts.{texts_from};
-ghost use Rattle.log_audit.specs.Ledger.{in_cents, was_reversed, ruling_paid, row_paid, book_paid, is_of, is_chosen, paid_total, sum_of, sums_pieces, sums_text, paid_pieces, paid_line, paid_text, paid_up_to, rows_pieces, rows_text, book_text, node_paid};
+ghost use Rattle.log_audit.specs.Ledger.{in_cents, was_reversed, ruling_paid, row_paid, book_paid, is_of, is_chosen, paid_total, sum_of, sums_text, paid_line, paid_text, paid_up_to, rows_text, book_text, node_paid};
 
 use crate::sentences::{Piece, put_pieces};
 use claim_profile::{Auth, Ruling};

@@ -1,13 +1,12 @@
 //! A legal run as the input of a replay.
 
-ghost use Rattle.std.specs.Prelude.{◌≡◌, ◌++◌, true, Ok, map, IsTrue, IfOk, OnOk};
+ghost use Rattle.std.specs.Prelude.{◌≡◌, ◌++◌, true, Ok, map, IsTrue, IfOk};
 ghost use Rattle.std.specs.List.{list_any};
 ghost use Rattle.std.specs.Str.Lines.{lines};
 ghost use Rattle.schedule.specs.Division.{ends_in_newline};
 ghost use Rattle.schedule.specs.Events.{have_no_advice};
 ghost use Rattle.schedule.specs.Reading.{events_of, living_events_of};
 ghost use Rattle.world_setup.specs.Seen.{event_seen};
-ghost use Rattle.table_text.specs.Adding.{Adds};
 ghost use Rattle.log_audit.specs.Telling.{divider, is_return, whole, IsDivided, IsSchedule, KeepsSettings};
 
 use crate::fault::AuditFault;

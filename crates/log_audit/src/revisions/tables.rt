@@ -1,13 +1,12 @@
 //! Tables of the changes of payers' plans, of pharmacies' rules of retries and of switches' caps, of a run or of logs.
 
 ghost use Rattle.std.specs.Prelude.{◌≡◌, [], map, IfOk, OnOk};
-ghost use Rattle.std.specs.List.{flat_map};
 ghost use Rattle.world_setup.specs.Seen.{event_seen};
 ghost use Rattle.node_log.specs.LogSeen.{logs_seen};
 ghost use Rattle.table_text.specs.Adding.{Adds, AddsRows};
 ghost use Rattle.table_text.specs.Rows.{head_text};
 ghost use Rattle.table_text.specs.declared.layout.Style.TheVariants.{Csv};
-ghost use Rattle.log_audit.specs.Changes.{change_seen, event_changes, log_changes};
+ghost use Rattle.log_audit.specs.Changes.{change_seen};
 ghost use Rattle.log_audit.specs.Following.{rows_behind};
 ghost use Rattle.log_audit.specs.ChangeTables.{change_names, change_rows, changes_csv, log_changes_csv, run_changes_csv};
 

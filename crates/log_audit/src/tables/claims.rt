@@ -1,9 +1,6 @@
 //! What a pharmacy asked for, as it stands in its request.
 
-ghost use Rattle.std.specs.Prelude.{◌≡◌, ◌<◌, ◌≤◌, length};
-ghost use Rattle.d0_segments.specs.Pieces.{groups_of};
-ghost use Rattle.d0_segments.specs.FramedParts.{framed_parts};
-ghost use Rattle.claim_profile.specs.Order.{placed_order};
+ghost use Rattle.std.specs.Prelude.{◌≡◌, ◌≤◌};
 ghost use Rattle.log_audit.specs.Claims.{billing_in, claim_asked, claim_seen, claim_shown};
 
 use claim_profile::{Claim, Order, OrderFault, check_readable, order_at};

@@ -3,28 +3,17 @@
 ghost use Rattle.std.specs.Prelude.{◌≡◌, ◌≤◌, length, OnOk};
 ghost use Rattle.log_audit.specs.Tables.{journal_rows};
 ghost use Rattle.table_text.specs.Adding.{AddsRow};
-ghost use Rattle.log_audit.specs.Entries.{names, count_named, cents_of, state_word, shown_seen, shown_row, entry_row, entry_rows};
+ghost use Rattle.log_audit.specs.Entries.{names, count_named, state_word, entry_row, entry_rows};
 ghost use Rattle.log_audit.specs.Outgoing.{PutsRows, TellsPut};
 
 use crate::outgoing::{Outgoing, TextSink};
+use crate::report::ledger::cents_of;
 use crate::tables::kinds::kind_word;
 use claim_profile::{Auth, Ruling};
 use node_state::JournalReading;
 use pharmacy_journal::{CountedPayment, EntryView};
 use std::alloc::AllocError;
 use table_text::{Field, Style, put_row};
-
-/// What is told of an entry.
-#[derive(Clone, Copy)]
-pub(crate) struct EntryShown {
-    pub(crate) pharmacy: u64,
-    pub(crate) number: u64,
-    pub(crate) kind: &'static [u8],
-    pub(crate) transactions: u64,
-    pub(crate) state: &'static [u8],
-    pub(crate) payments: u64,
-    pub(crate) cents: u64,
-}
 
 /// Appends a row for each entry of a journal, in order of numbers.
 pub(crate) fn put_journal<K: TextSink + Drop>(
@@ -68,6 +57,7 @@ fn put_entries<K: TextSink + Drop>(
 }
 
 /// Appends the row of an entry that named these counted payments first.
+#[tactic(auto, unfolding(crate::specs::Entries::entry_row))]
 fn put_entry(
     out: &mut Vec<u8>,
     style: Style,
@@ -77,31 +67,14 @@ fn put_entry(
 ) -> Result<(), AllocError>
     ensures { OnOk result (AddsRow style out.old out.new (entry_row pharmacy entry.now own.now)) }
 {
-    let shown = EntryShown {
-        pharmacy: u64::from(pharmacy),
-        number: entry.number(),
-        kind: kind_word(entry.code()),
-        transactions: u64::from(entry.count()),
-        state: state_word(entry.rulings()),
-        payments: own.len() as u64,
-        cents: cents_of(own),
-    };
-    put_shown(out, style, &shown)
-}
-
-/// Appends the row of what is told of an entry.
-#[tactic(auto, unfolding(crate::specs::Entries::shown_row))]
-fn put_shown(out: &mut Vec<u8>, style: Style, shown: &EntryShown) -> Result<(), AllocError>
-    ensures { OnOk result (AddsRow style out.old out.new (shown_row (shown_seen shown.now))) }
-{
     let fields = [
-        Field::number(b"pharmacy", shown.pharmacy),
-        Field::number(b"number", shown.number),
-        Field::word(b"kind", shown.kind),
-        Field::number(b"transactions", shown.transactions),
-        Field::word(b"state", shown.state),
-        Field::number(b"counted_payments", shown.payments),
-        Field::number(b"counted_cents", shown.cents),
+        Field::number(b"pharmacy", u64::from(pharmacy)),
+        Field::number(b"number", entry.number()),
+        Field::word(b"kind", kind_word(entry.code())),
+        Field::number(b"transactions", u64::from(entry.count())),
+        Field::word(b"state", state_word(entry.rulings())),
+        Field::number(b"counted_payments", own.len() as u64),
+        Field::number(b"counted_cents", cents_of(own)),
     ];
     put_row(out, style, &fields)
 }
@@ -144,14 +117,4 @@ fn names(ruling: &Ruling, auth: Auth) -> bool
         Ruling::Reversed { .. } => false,
         Ruling::Rejected { .. } => false,
     }
-}
-
-/// What payments come to in cents, as far as 64 bits hold it. An entry has few.
-fn cents_of(payments: &[CountedPayment]) -> u64
-    ensures { result ≡ cents_of payments.now }
-{
-    let [first, others @ ..] = payments else {
-        return 0;
-    };
-    u64::from(first.amounts().total()).saturating_add(cents_of(others))
 }

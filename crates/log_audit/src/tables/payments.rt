@@ -1,6 +1,6 @@
 //! The payments of a book.
 
-ghost use Rattle.std.specs.Prelude.{◌≡◌, ◌≤◌, OnOk, is_some};
+ghost use Rattle.std.specs.Prelude.{◌≡◌, ◌≤◌, OnOk};
 ghost use Rattle.pharmacy_journal.specs.Counting.{has_auth};
 ghost use Rattle.table_text.specs.Adding.{AddsRow, AddsRows};
 ghost use Rattle.log_audit.specs.Adding.{TellsRows};

@@ -1,22 +1,18 @@
 //! The tables of what a run left, or of logs one by one.
 
-ghost use Rattle.std.specs.Prelude.{◌≡◌, OnOk};
+ghost use Rattle.std.specs.Prelude.{◌≡◌};
 ghost use Rattle.std.specs.List.{flat_map};
-ghost use Rattle.table_text.specs.Adding.{Adds};
-ghost use Rattle.table_text.specs.Rows.{head_text, list_text, rows_text};
+ghost use Rattle.claim_model.specs.Held.{journal_in, book_in};
+ghost use Rattle.table_text.specs.Rows.{list_text, rows_text};
 ghost use Rattle.table_text.specs.declared.layout.Style.TheVariants.{Json};
-ghost use Rattle.pharmacy_journal.specs.Counting.{has_auth};
-ghost use Rattle.log_audit.specs.TabledSeen.{tabled_rows};
-ghost use Rattle.log_audit.specs.Tables.{node_payments, node_entries, node_counted_rows, node_rulings, world_payments, table_rows, table_names, table_csv, table_name, table_member, table_members};
-ghost use Rattle.log_audit.specs.Outgoing.{PutsRows, TellsPut, TellsText};
+ghost use Rattle.log_audit.specs.TabledSeen.{tabled_rows, book_rows, told_rows};
+ghost use Rattle.log_audit.specs.Tables.{world_payments, table_rows, table_csv, table_name, table_member, table_members};
+ghost use Rattle.log_audit.specs.Outgoing.{TellsPut, TellsText};
 
 use crate::alone::log::Lone;
-use crate::alone::tables::put_lone_table;
+use crate::alone::tables::{put_lone_table, put_open};
 use crate::outgoing::{Outgoing, TextSink};
-use crate::tables::columns::{
-    put_counted_names, put_entry_names, put_open_names, put_packet_names, put_payment_names,
-    put_row_names,
-};
+use crate::tables::columns::put_names;
 use crate::tables::counted::counted_auths;
 use crate::tables::counting::put_journal_counted;
 use crate::tables::entries::put_journal;
@@ -24,7 +20,9 @@ use crate::tables::packets::put_packets;
 use crate::tables::payments::put_book_payments;
 use crate::tables::rows::put_book_rulings;
 use claim_profile::Auth;
-use node_state::{PayerNode, PharmacyNode};
+use node_log::NodeLog;
+use node_state::{JournalReading, PayerNode, PharmacyNode};
+use payer_book::Book;
 use std::alloc::{AllocError, Global};
 use std::collections::BTreeSet;
 use table_text::Style;
@@ -70,6 +68,26 @@ pub(crate) enum Tabled<'a> {
     Run(&'a World, &'a [u64]),
     /// Logs one by one.
     Alone(&'a [Lone<'a>]),
+}
+
+/// What is told of a book.
+#[derive(Clone, Copy)]
+pub(crate) enum OfBook<'a> {
+    /// Its payments; those with these authorizations are counted.
+    Payments(&'a BTreeSet<Auth>),
+    /// The rulings of its rows.
+    Rulings,
+}
+
+/// What is told of a journal.
+#[derive(Clone, Copy)]
+pub(crate) enum OfJournal<'a> {
+    /// Its entries.
+    Entries,
+    /// The payments that it counts.
+    Counted,
+    /// Its entries without an answer, after the calls of this log.
+    Open(&'a NodeLog),
 }
 
 /// Appends a table as CSV: a line of the names of its columns, and a line for each row.
@@ -133,20 +151,6 @@ fn put_rows_list<K: TextSink + Drop>(
     out.end_list()
 }
 
-/// Appends the names of a table's columns.
-fn put_names(out: &mut Vec<u8>, table: Table) -> Result<(), AllocError>
-    ensures { OnOk result (Adds out.old out.new (head_text (table_names table))) }
-{
-    match table {
-        Table::Payments => put_payment_names(out),
-        Table::Entries => put_entry_names(out),
-        Table::Rows => put_row_names(out),
-        Table::Packets => put_packet_names(out),
-        Table::Counted => put_counted_names(out),
-        Table::Open => put_open_names(out),
-    }
-}
-
 /// Appends the rows of a table.
 fn put_table<K: TextSink + Drop>(
     alloc: Global,
@@ -176,10 +180,10 @@ fn put_run_table<K: TextSink + Drop>(
 {
     match table {
         Table::Payments => put_payments(alloc, out, style, world),
-        Table::Entries => put_entries(alloc, out, style, world.pharmacies()),
-        Table::Rows => put_rows(alloc, out, style, world.payers()),
+        Table::Entries => put_journals(alloc, out, style, world.pharmacies(), OfJournal::Entries),
+        Table::Rows => put_books(alloc, out, style, world.payers(), OfBook::Rulings),
         Table::Packets => put_packets(out, style, world.packets(), senders),
-        Table::Counted => put_counted(alloc, out, style, world.pharmacies()),
+        Table::Counted => put_journals(alloc, out, style, world.pharmacies(), OfJournal::Counted),
         Table::Open => Ok(()),
     }
 }
@@ -194,71 +198,79 @@ fn put_payments<K: TextSink + Drop>(
     ensures { TellsPut style out.old out.new (λ ctx. world_payments ctx world.now.world) result }
 {
     let counted = counted_auths(alloc, world.pharmacies())?;
-    put_paid(alloc, out, style, world.payers(), &counted)
-}
-
-/// Appends the payments of these books, of which those with these authorizations are counted.
-fn put_paid<K: TextSink + Drop>(
-    alloc: Global,
-    out: &mut Outgoing<K>,
-    style: Style,
-    nodes: &[PayerNode],
-    counted: &BTreeSet<Auth>,
-) -> Result<(), AllocError>
-    ensures { TellsPut style out.old out.new
-        (λ ctx. flat_map (node_payments ctx (has_auth counted.now.keys)) nodes.now) result }
-{
-    for node in nodes {
-        let reading = node.book(alloc)?;
-        put_book_payments(out, style, reading.book(), counted)?;
-    }
-    Ok(())
-}
-
-/// Appends the entries of these journals.
-fn put_entries<K: TextSink + Drop>(
-    alloc: Global,
-    out: &mut Outgoing<K>,
-    style: Style,
-    nodes: &[PharmacyNode],
-) -> Result<(), AllocError>
-    ensures { TellsPut style out.old out.new (λ ctx. flat_map (node_entries ctx) nodes.now) result }
-{
-    for node in nodes {
-        let journal = node.journal(alloc)?;
-        put_journal(out, style, &journal)?;
-    }
-    Ok(())
-}
-
-/// Appends the payments that these pharmacies count.
-fn put_counted<K: TextSink + Drop>(
-    alloc: Global,
-    out: &mut Outgoing<K>,
-    style: Style,
-    nodes: &[PharmacyNode],
-) -> Result<(), AllocError>
-    ensures { TellsPut style out.old out.new (λ ctx. flat_map (node_counted_rows ctx) nodes.now) result }
-{
-    for node in nodes {
-        let journal = node.journal(alloc)?;
-        put_journal_counted(out, style, &journal)?;
-    }
-    Ok(())
+    put_books(
+        alloc,
+        out,
+        style,
+        world.payers(),
+        OfBook::Payments(&counted),
+    )
 }
 
 /// Appends the rows of these books.
-fn put_rows<K: TextSink + Drop>(
+fn put_books<K: TextSink + Drop>(
     alloc: Global,
     out: &mut Outgoing<K>,
     style: Style,
     nodes: &[PayerNode],
+    of: OfBook<'_>,
 ) -> Result<(), AllocError>
-    ensures { OnOk result (PutsRows style out.old out.new (flat_map node_rulings nodes.now)) }
+    ensures { TellsPut style out.old out.new
+        (λ ctx. flat_map (λ node. book_rows ctx of.entry (book_in node)) nodes.now) result }
 {
     for node in nodes {
         let reading = node.book(alloc)?;
-        put_book_rulings(out, style, reading.book())?;
+        put_of_book(out, style, reading.book(), of)?;
     }
     Ok(())
+}
+
+/// Appends the rows of these journals.
+fn put_journals<K: TextSink + Drop>(
+    alloc: Global,
+    out: &mut Outgoing<K>,
+    style: Style,
+    nodes: &[PharmacyNode],
+    of: OfJournal<'_>,
+) -> Result<(), AllocError>
+    ensures { TellsPut style out.old out.new
+        (λ ctx. flat_map (λ node. told_rows ctx of.entry (journal_in node)) nodes.now) result }
+{
+    for node in nodes {
+        let journal = node.journal(alloc)?;
+        put_of_journal(alloc, out, style, &journal, of)?;
+    }
+    Ok(())
+}
+
+/// Appends the rows of a book.
+pub(crate) fn put_of_book<K: TextSink + Drop>(
+    out: &mut Outgoing<K>,
+    style: Style,
+    book: &Book,
+    of: OfBook<'_>,
+) -> Result<(), AllocError>
+    ensures { TellsPut style out.old out.new (λ ctx. book_rows ctx of.entry book.now) result }
+{
+    match of {
+        OfBook::Payments(counted) => put_book_payments(out, style, book, counted),
+        OfBook::Rulings => put_book_rulings(out, style, book),
+    }
+}
+
+/// Appends the rows of a journal.
+pub(crate) fn put_of_journal<K: TextSink + Drop>(
+    alloc: Global,
+    out: &mut Outgoing<K>,
+    style: Style,
+    journal: &JournalReading<'_>,
+    of: OfJournal<'_>,
+) -> Result<(), AllocError>
+    ensures { TellsPut style out.old out.new (λ ctx. told_rows ctx of.entry journal.now) result }
+{
+    match of {
+        OfJournal::Entries => put_journal(out, style, journal),
+        OfJournal::Counted => put_journal_counted(out, style, journal),
+        OfJournal::Open(log) => put_open(alloc, out, style, log, journal),
+    }
 }

@@ -1,10 +1,8 @@
-use Rattle.std.proofs.lemmas.Result.{on_ok_weaker}
 use Rattle.log_audit.proofs.judging.waiting.put_packet.Goals as goal
 
 pub returns-in-Ok : goal.returns-in-Ok
 returns-in-Ok c = λ routes.
-    on_ok_weaker c.put_pieces.result
-    (λ last. rw (c.opened.ensures routes, c.in-Ok.is) (rw (c.kind_words.ensures, c.kind.ensures, c.from.ensures, c.pharmacy.ensures.value, c.number.ensures.value, c.id-id.ensures) at last)) c.put_pieces.ensures
+    rw (c.opened.ensures routes, c.in-Ok.is) (rw (c.kind_words.ensures, c.kind.ensures, c.from.ensures, c.pharmacy.ensures.value, c.number.ensures.value, c.id-id.ensures) at c.put_pieces.ensures)
 
 pub returns-in-Err : goal.returns-in-Err
-returns-in-Err c = λ routes. on_ok_weaker c.put_pieces-in-Err.result (λ last. rw (c.opened.ensures routes, c.in-Err.is) last) c.put_pieces-in-Err.ensures
+returns-in-Err c = λ routes. rw (c.opened.ensures routes, c.in-Err.is) c.put_pieces-in-Err.ensures

@@ -1,7 +1,6 @@
-use Rattle.std.proofs.lemmas.Result.{on_ok_weaker}
 use Rattle.log_audit.specs.Ledger.{book_text}
 use Rattle.log_audit.proofs.report.paid.put_book.Goals as goal
 
 pub returns : goal.returns
 unfolding book_text
-returns c = λ routes. on_ok_weaker c.put_sums_of_book.result (λ last. rw (c.as_slice.ensures.value, c.in_ok-paid.ensures routes, c.rows.ensures.value) at last) c.put_sums_of_book.ensures
+returns c = λ routes. rw (c.as_slice.ensures.value, c.in_ok-paid.ensures routes, c.rows.ensures.value) at c.put_sums_of_book.ensures

@@ -1,7 +1,7 @@
-use Rattle.std.proofs.Common.{◌≡◌}
-use Rattle.log_audit.specs.Entries.{count_named}
+use Rattle.std.proofs.Common.{◌≡◌, refl}
+use Rattle.log_audit.specs.Entries.{count_named, entry_rows}
 use Rattle.log_audit.proofs.Passing.{piece_put}
-use Rattle.log_audit.proofs.Entering.{entries_go_on, entries_are_done}
+use Rattle.log_audit.proofs.Joining.{one_row, rows_go_on, rows_are_done}
 use Rattle.log_audit.proofs.tables.entries.put_entries.Goals as goal
 
 pub loop-entry-preserved : goal.loop-entry-preserved
@@ -10,8 +10,8 @@ loop-entry-preserved g c =
     let filled = rw (c.split_at.ensures.front, count) at c.in_ok-put_entry.ensures in
     let one = piece_put c.loop-entry.out c.put.new.self c.clear.new.self.items c.put_entry.new.out.items c.as_slice.result.now _ c.clear.ensures.items filled c.as_slice.ensures.value c.in_ok-put.ensures in
     rw (c.split_at.ensures.back, count)
-    (entries_go_on c.args.style c.args.pharmacy c.loop-entry.out c.put.new.self _ c.args.entries.now c.loop-entry.entry-index c.entry-item.result c.loop-entry.left.now
-    c.loop-entry-test.true c.entry-item.is one c.loop-entry.invariant)
+    (rows_go_on c.args.style (λ entries. entry_rows c.args.pharmacy entries c.loop-entry.left.now) _ _ c.loop-entry.out c.put.new.self _ c.args.entries.now c.loop-entry.entry-index c.entry-item.result
+    c.loop-entry-test.true c.entry-item.is refl (one_row c.args.style c.loop-entry.out c.put.new.self _ one) c.loop-entry.invariant)
 
 pub returns : goal.returns
-returns g c = entries_are_done c.args.style c.args.pharmacy c.loop-entry.out _ c.args.entries.now c.loop-entry.entry-index _ c.loop-entry-test.false c.loop-entry.invariant
+returns g c = rows_are_done c.args.style (λ entries. entry_rows c.args.pharmacy entries c.loop-entry.left.now) c.loop-entry.out _ c.args.entries.now c.loop-entry.entry-index c.loop-entry-test.false refl c.loop-entry.invariant

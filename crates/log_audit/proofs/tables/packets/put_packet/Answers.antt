@@ -1,5 +1,4 @@
-use Rattle.std.proofs.lemmas.Result.{on_ok_weaker}
 use Rattle.log_audit.proofs.tables.packets.put_packet.Goals as goal
 
 pub returns : goal.returns
-returns c = λ routes. on_ok_weaker c.put_loaded.result (λ last. rw (c.carried_in-carried.ensures routes, c.as_slice.ensures) at last) c.put_loaded.ensures
+returns c = λ routes. rw (c.carried_in-carried.ensures routes, c.as_slice.ensures) at c.put_loaded.ensures

@@ -14,6 +14,6 @@ returns g c = λ routes.
     let w = c.args.world.now.world in
     let told = rw c.pharmacies.ensures at c.in_ok-counted.ensures routes in
     let same : has_auth c.in_ok-counted.counted.keys ≡ is_counted ctx w.pharmacies = λ i auth. told auth i in
-    on_ok_weaker c.put_paid.result
+    on_ok_weaker c.put_books.result
     (λ last. (rw c.payers.ensures at last) ∙ ap (λ (counted : Auth → Bool). c.args.out.now ++ rows_text c.args.style (flat_map (node_payments ctx counted) w.payers)) same)
-    (c.put_paid.ensures routes)
+    (c.put_books.ensures routes)

@@ -1,9 +1,0 @@
-use Rattle.node_state.specs.Nodes.{book_of}
-use Rattle.claim_model.specs.Bytes.{bytes_with}
-use Rattle.pharmacy_journal.specs.Counting.{has_auth}
-use Rattle.log_audit.specs.Payments.{book_payments}
-use Rattle.log_audit.proofs.Joining.{nothing_told}
-use Rattle.log_audit.proofs.alone.tables.put_payments.Goals as goal
-
-pub returns-in-None : goal.returns-in-None
-returns-in-None g c = λ routes. nothing_told c.args.style (book_payments (bytes_with routes) (has_auth c.args.counted.now.keys)) c.args.out.now c.in_ok-reading.field-0 (book_of c.args.node.now) c.in_ok-reading.ensures c.in-None.is
