@@ -5,7 +5,7 @@ ghost use Rattle.world_setup.specs.Seen.{node_seen};
 ghost use Rattle.node_state.specs.Nodes.{held_of};
 ghost use Rattle.node_logged.specs.Setting.{context_of};
 ghost use Rattle.node_handle.specs.declared.refusal.Refusal.TheVariants.{OutOfMemory};
-ghost use Rattle.node_handle.specs.Asked.{Gives, GivesAnswer, GivesRequest, Sizes, answer_for, answer_in, TellsSize, is_pharmacy, lacking_in, request_in};
+ghost use Rattle.node_handle.specs.Asked.{Gives, GivesAnswer, GivesRequest, Sizes, answer_for, is_pharmacy, lacking_in};
 
 use crate::handle::NodeHandle;
 use crate::hosted::Hosted;
@@ -90,7 +90,13 @@ fn settled_size(alloc: Global, node: &Hosted, count: &mut u64) -> Result<(), Ref
     ensures { Sizes (Some node.now) result count.old count.new }
 {
     match node.settled() {
-        Ok(service) => tell_size(alloc, service, count),
+        Ok(service) => match service.state().size(alloc) {
+            Ok(size) => {
+                *count = size as u64;
+                Ok(())
+            }
+            Err(_) => Err(Refusal::OutOfMemory),
+        },
         Err(why) => Err(why),
     }
 }
@@ -106,7 +112,11 @@ fn settled_request(
     ensures { GivesRequest number (Some node.now) result buffer.old buffer.new size.old size.new }
 {
     match node.settled() {
-        Ok(service) => give_request(alloc, service, number, buffer, size),
+        Ok(service) => match service.state().request(alloc, number) {
+            Ok(Some(request)) => copy_out(request.as_slice(), buffer, size),
+            Ok(None) => Err(Refusal::NotFound),
+            Err(_) => Err(Refusal::OutOfMemory),
+        },
         Err(why) => Err(why),
     }
 }
@@ -123,55 +133,11 @@ fn settled_answer(
     ensures { GivesAnswer pharmacy number (Some node.now) result buffer.old buffer.new size.old size.new }
 {
     match node.settled() {
-        Ok(service) => give_answer(alloc, service, pharmacy, number, buffer, size),
+        Ok(service) => match TxnId::new(pharmacy, number) {
+            Some(id) => give_answer_for(alloc, service, id, buffer, size),
+            None => Err(Refusal::NotFound),
+        },
         Err(why) => Err(why),
-    }
-}
-
-/// Tells how many entries, slots or rows a node has.
-fn tell_size(alloc: Global, node: &Service, count: &mut u64) -> Result<(), Refusal>
-    ensures { TellsSize (Some node.now) result count.old count.new }
-{
-    match node.state().size(alloc) {
-        Ok(size) => {
-            *count = size as u64;
-            Ok(())
-        }
-        Err(_) => Err(Refusal::OutOfMemory),
-    }
-}
-
-/// Copies the request of an entry.
-fn give_request(
-    alloc: Global,
-    node: &Service,
-    number: u64,
-    buffer: &mut [u8],
-    size: &mut usize,
-) -> Result<(), Refusal>
-    ensures { Gives (Some (request_in number node.now)) result buffer.old buffer.new size.old size.new }
-{
-    match node.state().request(alloc, number) {
-        Ok(Some(request)) => copy_out(request.as_slice(), buffer, size),
-        Ok(None) => Err(Refusal::NotFound),
-        Err(_) => Err(Refusal::OutOfMemory),
-    }
-}
-
-/// Copies the answer for an id by its two numbers.
-pub(crate) fn give_answer(
-    alloc: Global,
-    node: &Service,
-    pharmacy: u16,
-    number: u64,
-    buffer: &mut [u8],
-    size: &mut usize,
-) -> Result<(), Refusal>
-    ensures { Gives (Some (answer_in pharmacy number node.now)) result buffer.old buffer.new size.old size.new }
-{
-    match TxnId::new(pharmacy, number) {
-        Some(id) => give_answer_for(alloc, node, id, buffer, size),
-        None => Err(Refusal::NotFound),
     }
 }
 

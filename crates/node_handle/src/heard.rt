@@ -6,7 +6,6 @@ ghost use Rattle.node_handle.specs.Heard.{GivesHeard, heard_in, heard_routed, of
 
 use crate::asking::{held, lacking};
 use crate::handle::NodeHandle;
-use crate::hosted::Hosted;
 use crate::reading::copy_out;
 use crate::refusal::Refusal;
 use envelope::TxnId;
@@ -38,24 +37,10 @@ impl NodeHandle {
             return Err(Refusal::Closed);
         }
         let node = self.take(alloc);
-        let told = give_heard_of(alloc, &*node, pharmacy, number, buffer, size);
+        let told = give_heard(alloc, node.unsettled(), pharmacy, number, buffer, size);
         self.put(node);
         told
     }
-}
-
-/// Copies such an answer of a node in its host's hands.
-fn give_heard_of(
-    alloc: Global,
-    node: &Hosted,
-    pharmacy: u16,
-    number: u64,
-    buffer: &mut [u8],
-    size: &mut usize,
-) -> Result<(), Refusal>
-    ensures { GivesHeard pharmacy number (Some node.now) result buffer.old buffer.new size.old size.new }
-{
-    give_heard(alloc, node.unsettled(), pharmacy, number, buffer, size)
 }
 
 /// Copies such an answer of a node.

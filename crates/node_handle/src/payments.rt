@@ -80,23 +80,11 @@ fn settled_payments(
     ensures { ListsPayments (Some node.now) result buffer.old buffer.new count.old count.new }
 {
     match node.settled() {
-        Ok(service) => give_payments(alloc, service, buffer, count),
+        Ok(service) => match plain_payments(alloc, service) {
+            Ok(list) => copy_list(list.as_slice(), buffer, count),
+            Err(_) => Err(Refusal::OutOfMemory),
+        },
         Err(why) => Err(why),
-    }
-}
-
-/// Copies the payments of a node.
-fn give_payments(
-    alloc: Global,
-    node: &Service,
-    buffer: &mut [PlainPayment],
-    count: &mut usize,
-) -> Result<(), Refusal>
-    ensures { Lists (Some (payments_in node.now)) result buffer.old buffer.new count.old count.new }
-{
-    match plain_payments(alloc, node) {
-        Ok(list) => copy_list(list.as_slice(), buffer, count),
-        Err(_) => Err(Refusal::OutOfMemory),
     }
 }
 
