@@ -47,6 +47,7 @@ pub(crate) fn cut_book(
 }
 
 /// Cuts this many products of a plan, as far as the bytes have them.
+#[tactic(auto, using(crate::proofs::AtRest::each_done, crate::proofs::AtRest::each_end, crate::proofs::AtRest::no_product))]
 fn cut_products(cutter: &mut Cutter<'_>, count: u32) -> Result<(), AllocError>
     ensures whole { cutter.new.whole ≡ cutter.old.whole }
     ensures told { OnOk result ((carried : List Carried)
@@ -74,6 +75,7 @@ fn cut_product(cutter: &mut Cutter<'_>) -> Result<(), AllocError>
 }
 
 /// Cuts this many rows of a book, as far as the bytes have them.
+#[tactic(auto, using(crate::proofs::AtRest::each_next))]
 fn cut_rows(
     cutter: &mut Cutter<'_>,
     carried: &mut Vec<Carried>,

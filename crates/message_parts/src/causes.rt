@@ -144,6 +144,7 @@ fn reversal_causes<'a>(
 }
 
 /// The causes whose condition holds.
+#[tactic(auto, using(crate::proofs::Conditions::holding_more))]
 fn collect<'a>(
     alloc: Global,
     conditions: &[(bool, Cause<'a>)],

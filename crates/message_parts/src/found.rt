@@ -64,6 +64,7 @@ impl<'a> Found<'a> {
     }
 
     /// What stands in the place of a field in the segments that follow up to the next group.
+    #[tactic(auto, using(crate::proofs::Counting::segment_next, crate::proofs::Counting::no_segment))]
     pub(crate) fn of(from: Cursor<'a>, sought: Sought) -> Found<'a>
         ensures { found_seen result ≡ after_segments sought Absent (shared_of from.entry.bytes.now) }
     {
@@ -79,6 +80,7 @@ impl<'a> Found<'a> {
 
     /// Counts the fields of a segment, where it is one of those sought, and gives a place from which the same
     /// segments follow.
+    #[tactic(auto, using(crate::proofs::Counting::segment_here, crate::proofs::Counting::segment_elsewhere))]
     fn count_in(self, sought: Sought, segment: SegmentAt<'a>) -> (Found<'a>, Cursor<'a>)
         ensures values { found_seen result.0
             ≡ after_segments sought (found_seen self.entry) (segment_at segment.entry ∷ []) }
@@ -92,6 +94,7 @@ impl<'a> Found<'a> {
     }
 
     /// Counts the fields that are left of a segment, and gives the place after them.
+    #[tactic(auto, using(claim_profile::proofs::Counting::counted_nothing, crate::proofs::Counting::field_next))]
     fn count_fields(self, sought: Sought, inside: Cursor<'a>) -> (Found<'a>, Cursor<'a>)
         ensures values { found_seen result.0
             ≡ after_fields sought (found_seen self.entry) (fields_left inside.entry.bytes.now) }

@@ -98,6 +98,7 @@ fn switch_count(bytes: &[u8]) -> u16
 }
 
 /// Cuts this many numbers of switches, as far as the bytes have them.
+#[tactic(auto, using(crate::proofs::AtRest::each_done, crate::proofs::AtRest::each_end, crate::proofs::AtRest::no_switch))]
 fn cut_switches(cutter: &mut Cutter<'_>, count: u16) -> Result<(), AllocError>
     ensures whole { cutter.new.whole ≡ cutter.old.whole }
     ensures told { OnOk result ((carried : List Carried)
@@ -113,6 +114,7 @@ fn cut_switches(cutter: &mut Cutter<'_>, count: u16) -> Result<(), AllocError>
 }
 
 /// Cuts this many entries of a journal, as far as the bytes have them.
+#[tactic(auto, using(crate::proofs::AtRest::each_next))]
 fn cut_entries(
     cutter: &mut Cutter<'_>,
     carried: &mut Vec<Carried>,
@@ -146,6 +148,7 @@ fn cut_entry(cutter: &mut Cutter<'_>, carried: &mut Vec<Carried>) -> Result<bool
 }
 
 /// Cuts the flag of an entry and what stands after it, and says whether all of it was there.
+#[tactic(auto, using(crate::proofs::AtRest::if_ok, crate::proofs::AtRest::flag))]
 fn cut_flag(cutter: &mut Cutter<'_>, carried: &mut Vec<Carried>) -> Result<bool, AllocError>
     ensures whole { cutter.new.whole ≡ cutter.old.whole }
     ensures told { IfOk result (λ whole. Tells flag_told whole cutter.old cutter.new

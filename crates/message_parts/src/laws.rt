@@ -22,6 +22,7 @@ ghost use Rattle.message_parts.specs.Steps.{AreTransmission};
 
 /// A transaction has no cause exactly where it reads as an order, and the codes with which one is rejected are the
 /// first five of its causes.
+#[tactic(auto, using(crate::proofs::CauseLaws::reads, crate::proofs::CauseLaws::only, crate::proofs::CauseLaws::first_five))]
 pub fn cause_laws()
     ensures reads { (h : Request) (shared group : List SegmentParts) (order : Order)
         → order_of h shared group ≡ Ok order → causes_of h shared group ≡ [] }
@@ -42,6 +43,7 @@ pub fn part_laws()
 {}
 
 /// In a journal or a book that reads well no part stands where none should, nor in the requests and answers in it.
+#[tactic(auto, using(crate::proofs::RecordLaws::journal_stands, crate::proofs::RecordLaws::book_stands))]
 pub fn record_laws()
     ensures journal { (number : ℕ) (settings : PharmacySettings) (bytes : List ℕ) (j : JournalAtRest)
         → journal_in number settings bytes ≡ Ok j → AllByRecursion Stands (record_told 0 bytes).parts }

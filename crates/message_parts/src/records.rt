@@ -31,6 +31,7 @@ static PACKET: [(PartKind, usize); 6] = [
 ];
 
 /// Cuts an envelope. What it carries is cut as its head says, and as a request where the head says neither.
+#[tactic(auto, using(crate::proofs::Wholes::packet))]
 pub(crate) fn cut_packet(
     cutter: &mut Cutter<'_>,
     carried: &mut Vec<Carried>,
@@ -62,6 +63,7 @@ fn cut_packet_head(cutter: &mut Cutter<'_>, size: usize) -> Result<usize, AllocE
 }
 
 /// Cuts what an envelope carries, where bytes are left.
+#[tactic(auto, using(crate::proofs::Wholes::nothing_added))]
 fn cut_payload(
     cutter: &mut Cutter<'_>,
     carried: &mut Vec<Carried>,
@@ -122,6 +124,7 @@ pub fn is_book(bytes: &[u8]) -> bool
 }
 
 /// Cuts a text after its length, and says whether all of it was there.
+#[tactic(auto, using(crate::proofs::AtRest::if_ok, crate::proofs::AtRest::text_there, crate::proofs::AtRest::no_text, crate::proofs::AtRest::text_fits))]
 pub(crate) fn cut_text(
     cutter: &mut Cutter<'_>,
     carried: &mut Vec<Carried>,
@@ -156,6 +159,7 @@ fn text_size(bytes: &[u8]) -> Option<usize>
 }
 
 /// Cuts the next bytes, this many, as a transmission, and says that they were there.
+#[tactic(auto, using(crate::proofs::AtRest::sized))]
 fn cut_sized(
     cutter: &mut Cutter<'_>,
     carried: &mut Vec<Carried>,
@@ -172,6 +176,7 @@ fn cut_sized(
 }
 
 /// Cuts marks of fixed widths, as far as the bytes reach.
+#[tactic(auto, using(crate::proofs::AtRest::head))]
 pub(crate) fn cut_marks(
     cutter: &mut Cutter<'_>,
     marks: &[(PartKind, usize)],

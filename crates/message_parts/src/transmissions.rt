@@ -36,6 +36,7 @@ static ANSWER: [(PartKind, usize); 7] = [
 ];
 
 /// Cuts the next bytes, this many, as a request or an answer.
+#[tactic(auto, using(crate::proofs::Bodies::transmission_cut))]
 pub(crate) fn cut_transmission(
     cutter: &mut Cutter<'_>,
     form: Form,

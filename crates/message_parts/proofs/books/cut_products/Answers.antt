@@ -1,6 +1,6 @@
-use Rattle.std.proofs.Common.{◌-◌, ◌∙◌, refl, sym}
+use Rattle.std.proofs.Common.{◌-◌, ◌∙◌, refl}
 use Rattle.message_parts.specs.AtRest.{product_told}
-use Rattle.message_parts.proofs.AtRest.{each_next, each_done, each_end, no_product}
+use Rattle.message_parts.proofs.AtRest.{each_next}
 use Rattle.message_parts.proofs.books.cut_products.Goals as goal
 
 pub loop-preserved : goal.loop-preserved
@@ -10,10 +10,3 @@ loop-preserved c = record {
       each_next product_told c.args.count c.loop.counter behind _ c.loop.cutter c.cut_product.new.cutter carried carried _ c.loop-test.true refl
       (c.in_ok-cut_product.ensures.told carried) (c.loop.invariant.told carried behind);
 }
-
-pub returns-clause-told : goal.returns-clause-told
-returns-clause-told c = λ carried behind. each_done product_told c.args.count c.loop.counter behind c.loop.cutter carried _ c.loop-test.false (c.loop.invariant.told carried behind)
-
-pub returns-then-is_empty-clause-told : goal.returns-then-is_empty-clause-told
-returns-then-is_empty-clause-told c = λ carried behind.
-    each_end product_told no_product (c.args.count - c.loop.counter) behind c.loop.cutter carried _ c.left.result.now c.left.ensures.left (sym c.is_empty.ensures ∙ c.if-is_empty.true) (c.loop.invariant.told carried behind)

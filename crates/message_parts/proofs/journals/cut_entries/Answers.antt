@@ -1,14 +1,6 @@
-use Rattle.std.proofs.Common.{◌∙◌}
 use Rattle.message_parts.specs.AtRest.{entry_told, stray_told}
-use Rattle.message_parts.proofs.AtRest.{each_next, each_stops, each_done}
+use Rattle.message_parts.proofs.AtRest.{each_stops, each_done}
 use Rattle.message_parts.proofs.journals.cut_entries.Goals as goal
-
-pub loop-preserved : goal.loop-preserved
-loop-preserved c = record {
-  whole = c.in_ok-whole.ensures.whole ∙ c.loop.invariant.whole;
-  told = each_next entry_told c.args.count c.loop.counter stray_told c.in_ok-whole.whole c.loop.cutter c.cut_entry.new.cutter c.loop.carried.items c.cut_entry.new.carried.items _
-      c.loop-test.true c.if-not-whole.false c.in_ok-whole.ensures.told c.loop.invariant.told;
-}
 
 pub returns-then-not-whole-clause-told : goal.returns-then-not-whole-clause-told
 returns-then-not-whole-clause-told c =
