@@ -19,7 +19,6 @@ pub(crate) fn put_codes_string(out: &mut Text, rejects: &[Code])
 }
 
 /// Writes codes as letters of a string.
-#[tactic(auto, using(std::proofs::lemmas::List::drop_more, std::proofs::lemmas::List::drop_all, crate::proofs::Rulings::letters_both))]
 fn put_plain_codes(out: &mut Text, rejects: &[Code])
     ensures { Takes (json_letters (plain_codes [] rejects.now)) out.old out.new }
 {
@@ -38,7 +37,6 @@ fn put_plain_code(out: &mut Text, front: &[u8], code: Code)
 }
 
 /// Writes letters of a string, and others after them.
-#[tactic(auto, using(crate::proofs::Rulings::letters_both))]
 fn put_letters(out: &mut Text, front: &[u8], behind: &[u8])
     ensures { Takes (json_letters (front.now ++ behind.now)) out.old out.new }
 {
@@ -47,7 +45,6 @@ fn put_letters(out: &mut Text, front: &[u8], behind: &[u8])
 }
 
 /// Writes codes with their names.
-#[tactic(auto, using(std::proofs::lemmas::List::drop_more, std::proofs::lemmas::List::drop_all, crate::proofs::Written::both))]
 pub(crate) fn put_named_codes(out: &mut Text, rejects: &[Code])
     ensures { Takes (named_codes (codes ": ") rejects.now) out.old out.new }
 {

@@ -51,7 +51,6 @@ impl FindingPage {
 }
 
 /// Writes a text with facts in the places of their numbers.
-#[tactic(auto, using(crate::proofs::Filling::fill_end, crate::proofs::Filling::fill_more))]
 pub(crate) fn fill(out: &mut Text, style: Style, facts: &[Fact<'_>], text: &[u8])
     ensures { Takes (filled style (map fact_seen facts.now) false text.now) out.old out.new }
 {

@@ -256,7 +256,6 @@ pub(crate) fn put_comma(out: &mut Text, style: Style, started: bool)
 }
 
 /// Writes a part as a line.
-#[tactic(auto, using(crate::proofs::Rows::line_taken))]
 fn put_row_line(out: &mut Text, place: usize, row: Row<'_>, meaning: &[u8])
     ensures { Takes (row_line place (titles row.entry.number.now row.entry.name.now row.entry.key.now)
         row.entry.value.now meaning.now) out.old out.new }
@@ -343,7 +342,6 @@ fn put_meaning_member(out: &mut Text, meaning: &[u8])
 }
 
 /// The columns of a line before the value: the place, by its last eight digits, the number and the name.
-#[tactic(auto, using(crate::proofs::Rows::columns_are))]
 pub(crate) fn columns(place: usize, number: &[u8], name: &[u8]) -> [u8; VALUE]
     ensures { result ≡ columns_text place number.now name.now }
 {
@@ -356,7 +354,6 @@ pub(crate) fn columns(place: usize, number: &[u8], name: &[u8]) -> [u8; VALUE]
 }
 
 /// Puts a number to the right into the eight bytes after the first one of a line.
-#[tactic(auto, using(crate::proofs::Rows::place_put))]
 fn put_place(line: &mut [u8], place: usize)
     requires { 9 ≤ length line.old }
     ensures { line.new ≡ take (9 - min (length (number_text place)) 8) line.old

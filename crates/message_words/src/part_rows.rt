@@ -221,7 +221,6 @@ fn put_group(out: &mut Text, style: Style, place: usize, count: u64)
 }
 
 /// Writes that a transaction of this number begins, as a line.
-#[tactic(auto, using(crate::proofs::Rows::both_as))]
 fn put_group_line(out: &mut Text, place: usize, count: u64)
     ensures { Takes (group_text styled.Lines place count) out.old out.new }
 {
@@ -230,7 +229,6 @@ fn put_group_line(out: &mut Text, place: usize, count: u64)
 }
 
 /// The same as an object.
-#[tactic(auto, using(crate::proofs::Written::both))]
 fn put_group_object(out: &mut Text, place: usize, count: u64)
     ensures { Takes (group_text styled.Json place count) out.old out.new }
 {
