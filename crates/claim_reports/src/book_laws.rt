@@ -17,6 +17,7 @@ ghost use Rattle.claim_reports.specs.Totals.{is_chosen};
 /// The payments that are chosen over some books are those that are chosen of the payments of these books. And where books are
 /// split into two parts, the totals of each number over all of them are those over both parts added up: payments, cents,
 /// reversed payments and reversed cents.
+#[tactic(auto, using(crate::proofs::Shares::members_chosen, crate::proofs::Shares::totals_together))]
 pub fn totals_laws()
     ensures members { (c : Choice) (books : List Span) (paid : List Paid)
         → filter (is_chosen (of_books c books)) paid ≡ filter (is_chosen (of_all c)) (paid_of books paid) }
@@ -28,6 +29,7 @@ pub fn totals_laws()
 /// The rulings of some books in a table are, of those of more books, those of these. And where books are split into two parts,
 /// and each authorization is of the book that ruled on it, what stood, what was paid, what was taken back and what stands over
 /// all of them are those over both parts added up.
+#[tactic(auto, using(crate::proofs::Members::members_ruled))]
 pub fn remittance_laws()
     ensures members { (c : DailyColumns) (asked : DailyRemittance) (all these : List Span)
         (rows : List (List (List ℕ))) (rulings : List DailyRuling)

@@ -116,6 +116,7 @@ impl Ledger {
     ///
     /// # Errors
     /// `PaidAgain` and `NotStanding` with the number of a ruling; `TooLarge`; want of memory.
+    #[tactic(auto, using(crate::proofs::Telling::passed, crate::proofs::WrongMoves::good_end, crate::proofs::WrongMoves::sums_wrong, crate::proofs::WrongMoves::wrong_here))]
     pub fn take_all(&mut self, passed: u64, moves: &[Move]) -> Result<Moved, ReportFault>
         ensures takes { (before : List Move) → IsLedgerOf before self.old
             → IfOk result (λ moved. TakesAll before moves.now self.old self.new moved) }
@@ -193,6 +194,7 @@ impl Ledger {
     }
 
     /// What a ruling takes back: of a reversal what was paid under its authorization.
+    #[tactic(auto, using(crate::proofs::Dated::cents_are))]
     pub(crate) fn back_cents(&self, ruling: Move) -> u64
         ensures { (all : List Move) → IsLedgerOf all self.now → result ≡ back_cents all ruling }
     {

@@ -53,6 +53,7 @@ pub(crate) trait Columns: Copy + Sized {
 ///
 /// # Errors
 /// The first fault of the table, by its text, its columns and its rows; want of memory.
+#[tactic(auto, unfolding(crate::specs::Causes::table_cause), using(crate::proofs::Telling::passed, crate::proofs::Telling::refuses_same, crate::proofs::Telling::table_is, crate::proofs::Telling::tells_first))]
 pub(crate) fn rows_in<C: Columns>(
     alloc: Global,
     number: u64,
@@ -74,6 +75,7 @@ pub(crate) fn rows_in<C: Columns>(
 ///
 /// # Errors
 /// The first fault of its columns and its rows; want of memory.
+#[tactic(auto, unfolding(crate::specs::Causes::columns_cause), using(crate::proofs::Telling::all_good, crate::proofs::Telling::bad_here, crate::proofs::Telling::neither, crate::proofs::Telling::passed, crate::proofs::Telling::row_at, crate::proofs::Telling::tells_first, crate::proofs::Telling::tells_then))]
 pub(crate) fn rows_of<C: Columns>(
     alloc: Global,
     table: &Table,

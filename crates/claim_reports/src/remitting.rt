@@ -79,6 +79,7 @@ pub fn remittance_sums(
 }
 
 /// The names of the columns, and a row for each ruling of the period, after those before it.
+#[tactic(auto, using(crate::proofs::Telling::neither, crate::proofs::Telling::passed, crate::proofs::Telling::tells_then, crate::proofs::WrongLines::lines_fine, crate::proofs::WrongLines::move_wrong, crate::proofs::WrongLines::row_wrong))]
 fn lines_text(
     alloc: Global,
     columns: &RulingColumns,

@@ -41,6 +41,7 @@ pub struct Sums {
 ///
 /// # Errors
 /// `TooLarge` where a sum has more than 64 bits; want of memory.
+#[tactic(auto, using(crate::proofs::Overflows::all_fit))]
 pub fn totals_of(
     alloc: Global,
     by: By,

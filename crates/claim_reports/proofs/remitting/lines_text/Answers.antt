@@ -4,8 +4,8 @@ use Rattle.table_text.specs.Rows.{head_text}
 use Rattle.claim_reports.specs.Statement.{line_names}
 use Rattle.claim_reports.specs.RulingsSeen.{line_seen, lines_seen}
 use Rattle.claim_reports.proofs.Remittances.{lines_none, lines_next}
-use Rattle.claim_reports.proofs.Telling.{neither, passed, tells_then}
-use Rattle.claim_reports.proofs.WrongLines.{lines_begin, lines_fine, lines_good, move_wrong, row_wrong}
+use Rattle.claim_reports.proofs.Telling.{passed}
+use Rattle.claim_reports.proofs.WrongLines.{lines_begin, lines_good}
 use Rattle.claim_reports.proofs.remitting.lines_text.Goals as goal
 
 pub loop-line-init : goal.loop-line-init
@@ -34,28 +34,3 @@ loop-line-preserved c =
           (lines_good c.args.columns.now c.args.before.now (length c.args.before.now + c.loop-line.line-index + 1) c.loop-line.line-index c.args.lines.now _ _ lt
           (rw (c.line-item.is, number) at (c.in_ok-moved.ensures.refuses _ c.loop-line.invariant.lines.is (omega arith))) (rw c.line-item.is at c.in_ok-put_line.ensures.refuses) c.loop-line.invariant.good);
     }
-
-pub returns-in_err-moved-clause-refuses : goal.returns-in_err-moved-clause-refuses
-returns-in_err-moved-clause-refuses c =
-    let lt = c.loop-line-test.true in
-    let at = c.loop-line.invariant.number in
-    let number : c.loop-line.passed + 1 ≡ length c.args.before.now + c.loop-line.line-index + 1 = omega arith in
-    passed c.from_residual-in_err-moved.result _ _ c.from_residual-in_err-moved.ensures.1
-    (tells_then _ _ _ (c.in_ok-take_all.ensures.refuses [] c.new-ledger.ensures (omega arith))
-    (move_wrong c.args.columns.now c.args.before.now (length c.args.before.now + c.loop-line.line-index + 1) c.loop-line.line-index c.args.lines.now _ _ _ lt
-    (rw (c.line-item.is, number) at (c.in_err-moved.ensures.refuses _ c.loop-line.invariant.lines.is (omega arith))) c.loop-line.invariant.good))
-
-pub returns-in_err-put_line-clause-refuses : goal.returns-in_err-put_line-clause-refuses
-returns-in_err-put_line-clause-refuses c =
-    let lt = c.loop-line-test.true in
-    let at = c.loop-line.invariant.number in
-    let number : c.loop-line.passed + 1 ≡ length c.args.before.now + c.loop-line.line-index + 1 = omega arith in
-    passed c.from_residual-in_err-put_line.result _ _ c.from_residual-in_err-put_line.ensures.1
-    (tells_then _ _ _ (c.in_ok-take_all.ensures.refuses [] c.new-ledger.ensures (omega arith))
-    (row_wrong c.args.columns.now c.args.before.now (length c.args.before.now + c.loop-line.line-index + 1) c.loop-line.line-index c.args.lines.now _ _ _ lt
-    (rw (c.line-item.is, number) at (c.in_ok-moved.ensures.refuses _ c.loop-line.invariant.lines.is (omega arith))) (rw c.line-item.is at c.in_err-put_line.ensures.refuses) c.loop-line.invariant.good))
-
-pub returns-clause-refuses : goal.returns-clause-refuses
-returns-clause-refuses c =
-    neither _ _ (c.in_ok-take_all.ensures.refuses [] c.new-ledger.ensures (omega arith))
-    (lines_fine c.args.columns.now c.args.before.now (length c.args.before.now + c.loop-line.line-index + 1) c.loop-line.line-index c.args.lines.now _ c.loop-line-test.false c.loop-line.invariant.good)

@@ -1,5 +1,5 @@
 use Rattle.claim_reports.proofs.Adding.{each_more, all_more}
-use Rattle.claim_reports.proofs.Overflows.{all_fit, fits_on, large_here}
+use Rattle.claim_reports.proofs.Overflows.{fits_on, large_here}
 use Rattle.claim_reports.proofs.Telling.{passed}
 use Rattle.claim_reports.proofs.totals.totals_of.Goals as goal
 
@@ -17,6 +17,3 @@ pub returns-in_err-add-clause-refuses : goal.returns-in_err-add-clause-refuses
 returns-in_err-add-clause-refuses c =
     passed c.from_residual.result _ _ c.from_residual.ensures.1
     (large_here _ c.args.by c.args.paid.now c.loop-payment.payment-index _ c.loop-payment.totals c.loop-payment-test.true (rw c.key.ensures at c.in_err-add.ensures.refuses) c.loop-payment.invariant.each)
-
-pub returns-clause-refuses : goal.returns-clause-refuses
-returns-clause-refuses c = all_fit c.args.by c.args.paid.now c.loop-payment.payment-index c.loop-payment-test.false c.loop-payment.invariant.fits

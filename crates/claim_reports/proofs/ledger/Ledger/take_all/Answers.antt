@@ -1,7 +1,7 @@
 use Rattle.std.proofs.Common.{◌≡◌, ◌+◌, arith}
 use Rattle.claim_reports.proofs.Ledgers.{takes_more}
 use Rattle.claim_reports.proofs.Telling.{passed}
-use Rattle.claim_reports.proofs.WrongMoves.{good_end, good_more, sums_wrong, wrong_here}
+use Rattle.claim_reports.proofs.WrongMoves.{good_more}
 use Rattle.claim_reports.proofs.ledger.Ledger.take_all.Goals as goal
 
 pub loop-place-preserved : goal.loop-place-preserved
@@ -21,27 +21,3 @@ loop-place-preserved c =
           (good_more _ before c.args.moves.now c.loop-place.place (c.args.passed + c.loop-place.place + 1) c.loop-place.all.paid c.loop-place.all.reversed _ c.loop-place.self c.take.new.self c.in_ok-moved.moved
           lt (c.loop-place.invariant.takes before is).is c.in_ok-moved.ensures.takes (rw number at c.in_ok-moved.ensures.refuses) c.in_ok-all.ensures.refuses (c.loop-place.invariant.good before is fit));
     }
-
-pub returns-in_err-moved-clause-refuses : goal.returns-in_err-moved-clause-refuses
-returns-in_err-moved-clause-refuses c = λ before is fit.
-    let lt = c.loop-place-test.true in
-    let first = c.saturating_add.ensures in
-    let then = c.saturating_add-number.ensures in
-    let number : c.saturating_add-number.result ≡ c.args.passed + c.loop-place.place + 1 = omega arith in
-    passed c.from_residual.result _ _ c.from_residual.ensures.1
-    (wrong_here _ _ before c.args.moves.now c.loop-place.place (c.args.passed + c.loop-place.place + 1) c.loop-place.all.paid c.loop-place.all.reversed _ c.loop-place.self
-    lt (c.loop-place.invariant.takes before is).is (rw number at c.in_err-moved.ensures.refuses) (c.loop-place.invariant.good before is fit))
-
-pub returns-in_err-all-clause-refuses : goal.returns-in_err-all-clause-refuses
-returns-in_err-all-clause-refuses c = λ before is fit.
-    let lt = c.loop-place-test.true in
-    let first = c.saturating_add.ensures in
-    let then = c.saturating_add-number.ensures in
-    let number : c.saturating_add-number.result ≡ c.args.passed + c.loop-place.place + 1 = omega arith in
-    passed c.from_residual-in_err-all.result _ _ c.from_residual-in_err-all.ensures.1
-    (sums_wrong _ _ before c.args.moves.now c.loop-place.place (c.args.passed + c.loop-place.place + 1) c.loop-place.all.paid c.loop-place.all.reversed _ c.loop-place.self c.take.new.self c.in_ok-moved.moved
-    lt (c.loop-place.invariant.takes before is).is c.in_ok-moved.ensures.takes (rw number at c.in_ok-moved.ensures.refuses) c.in_err-all.ensures.refuses (c.loop-place.invariant.good before is fit))
-
-pub returns-clause-refuses : goal.returns-clause-refuses
-returns-clause-refuses c = λ before is fit.
-    good_end _ before c.args.moves.now c.loop-place.place (c.args.passed + c.loop-place.place + 1) c.loop-place.all.paid c.loop-place.all.reversed c.loop-place-test.false (c.loop-place.invariant.good before is fit)
