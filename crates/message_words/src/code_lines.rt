@@ -37,6 +37,7 @@ fn put_plain_code(out: &mut Text, front: &[u8], code: Code)
 }
 
 /// Writes letters of a string, and others after them.
+#[tactic(auto, using(crate::proofs::Rulings::letters_both))]
 fn put_letters(out: &mut Text, front: &[u8], behind: &[u8])
     ensures { Takes (json_letters (front.now ++ behind.now)) out.old out.new }
 {

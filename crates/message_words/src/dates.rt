@@ -43,6 +43,7 @@ fn eight(value: &[u8]) -> [u8; 8]
 }
 
 /// Appends a day, as `15 January 2024`.
+#[tactic(auto, unfolding(crate::specs::Meanings::day_words), using(crate::proofs::Written::three))]
 fn put_day(out: &mut Text, day: u64, month: u64, year: u64)
     ensures { Takes (day_words year month day) out.old out.new }
 {

@@ -160,6 +160,7 @@ struct Head {
 }
 
 /// Writes a finding as an object.
+#[tactic(auto, unfolding(crate::specs::Sayings::finding_object), using(crate::proofs::Written::four))]
 fn put_finding(out: &mut Text, head: Head, finding: &str, members: &[u8], all: &[u8])
     ensures { Takes (finding_object head.started head.within finding.now members.now all.now) out.old out.new }
 {

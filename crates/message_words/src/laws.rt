@@ -18,6 +18,7 @@ pub fn sentence_laws()
 
 /// From the text of a description in JSON is read again what it tells of its message and of each part: the members of
 /// its object up to the list of parts, and the members of each part. A value is told as it is printed.
+#[tactic(auto, using(crate::proofs::ReadBack::description_read, crate::proofs::ReadBack::printed_shown))]
 pub fn description_laws()
     ensures read { (dropped : Bool × Bool) (line : ℕ) (kind : MessageKind) (bytes : List ℕ)
         → listing_in (description Json dropped line kind bytes) ≡ Some (message_listing dropped line kind bytes) }

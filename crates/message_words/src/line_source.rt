@@ -112,6 +112,7 @@ impl From<AllocError> for InputFault {
 
 impl Unread {
     /// The bytes.
+    #[tactic(auto, using(crate::proofs::InputLines::stretch_is))]
     fn as_slice(&self) -> &[u8]
         ensures { result.now ≡ unread self.now }
     {
@@ -193,6 +194,7 @@ impl<R: ByteSource + Drop> LineSource<R> {
     ///
     /// # Errors
     /// `Read` where a read failed, `TooLong` for a line of more than 16,777,216 bytes, `OutOfMemory`.
+    #[tactic(auto, using(std::proofs::lemmas::Result::err_from_is_err_and, crate::proofs::InputLines::last_now, crate::proofs::InputLines::last_fits, crate::proofs::InputLines::ended_fits, crate::proofs::InputLines::line_fault, crate::proofs::InputLines::any_fault, crate::proofs::InputLines::none_lost, crate::proofs::InputLines::none_taken_lost, crate::proofs::InputLines::line_goes_on_now, crate::proofs::InputLines::plain_on_now))]
     pub fn read_line(&mut self) -> Result<bool, InputFault>
         ensures line { IfOk result (λ some. IfSome (left_in (R.remaining self.old.reader) self.old.unread) (λ bytes.
             IsNextLine bytes some self.new.line.items (left_in (R.remaining self.new.reader) self.new.unread))) }
@@ -225,6 +227,7 @@ impl<R: ByteSource + Drop> LineSource<R> {
     ///
     /// # Errors
     /// Those of `read_line`.
+    #[tactic(auto, using(std::proofs::lemmas::Result::err_from_is_err_and, crate::proofs::InputLines::all_now, crate::proofs::InputLines::goes_on_now, crate::proofs::InputLines::any_fault, crate::proofs::InputLines::none_lost, crate::proofs::InputLines::none_taken_lost, crate::proofs::InputLines::all_fault))]
     pub fn read_all(&mut self) -> Result<(), InputFault>
         ensures all { OnOk result (IfSome (left_in (R.remaining self.old.reader) self.old.unread) (λ bytes.
             AreAll bytes self.new.line.items (left_in (R.remaining self.new.reader) self.new.unread))) }
@@ -265,6 +268,7 @@ impl<R: ByteSource + Drop> LineSource<R> {
     }
 
     /// Adds what was read up to the next newline to the line, passes over the newline, and says whether there was one.
+    #[tactic(auto, using(crate::proofs::InputLines::behind_newline))]
     fn take_to_newline(&mut self) -> Result<bool, InputFault>
         ensures reader { self.new.reader ≡ self.old.reader }
         ensures ended { IfOk result (λ ended. ended ≡ has_newline (unread self.old.unread)) }

@@ -354,6 +354,7 @@ pub(crate) fn columns(place: usize, number: &[u8], name: &[u8]) -> [u8; VALUE]
 }
 
 /// Puts a number to the right into the eight bytes after the first one of a line.
+#[tactic(auto, using(crate::proofs::Rows::place_put))]
 fn put_place(line: &mut [u8], place: usize)
     requires { 9 ≤ length line.old }
     ensures { line.new ≡ take (9 - min (length (number_text place)) 8) line.old

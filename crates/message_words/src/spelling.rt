@@ -70,6 +70,7 @@ pub fn hex_bytes(alloc: Global, line: &[u8]) -> Result<Vec<u8>, SpellingFault>
 
 /// Appends the byte that two hexadecimal digits at a place of a line spell, or passes over the space there, and gives how
 /// many letters these are.
+#[tactic(auto, using(crate::proofs::Hex::from_place, crate::proofs::Hex::space, crate::proofs::Hex::byte))]
 fn take_hex(bytes: &mut Vec<u8>, line: &[u8], place: usize) -> Result<usize, SpellingFault>
     requires { place < length line.now }
     ensures some { IfOk result (λ count. 1 ≤ count) }

@@ -132,6 +132,7 @@ impl Text {
     }
 
     /// Appends this many spaces, at most 128.
+    #[tactic(auto, using(crate::proofs::Encoded::spaces_front))]
     pub(crate) fn spaces(&mut self, count: usize)
         ensures { Takes (spaces (min count 128)) self.old self.new }
     {
