@@ -166,6 +166,7 @@ fn put_zeros(alloc: Global, text: &mut Vec<u8>, count: usize) -> Result<(), Allo
 
 /// Appends the records of a part, where it is a log of this node, after this many; and says how many there are then, and how many bytes
 /// stand after them in the part.
+#[tactic(auto, using(settings_digest::proofs::Keeping::turned_at, crate::proofs::Parts::end_is, crate::proofs::Parts::no_part_by))]
 fn append_part(
     alloc: Global,
     digests: &Digests,

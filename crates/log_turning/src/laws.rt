@@ -23,6 +23,7 @@ pub fn turned_logs_go_on()
 {}
 
 /// The file of a log that begins with a rest has this rest and this log.
+#[tactic(auto, using(crate::proofs::FilesBack::file_back))]
 pub fn files_have_their_parts()
     ensures { (rest log : List ℕ) → length rest < 2 ^ 64
         → part_in (file_text rest log) ≡ record { rest = Some rest; log = log } }

@@ -43,6 +43,7 @@ pub struct Turned {
 /// # Errors
 /// `Refused` where the node is not served from the log, as `Service::open` says; `NoRecord` where it has made more calls than 64 bits
 /// count, or once stopped is no node of its settings.
+#[tactic(auto, using(crate::proofs::Unturned::passed, crate::proofs::Unturned::unclosed_unturned))]
 pub fn turn_log(
     alloc: Global,
     text: &[u8],
@@ -105,6 +106,7 @@ pub(crate) struct Closed {
 }
 
 /// Closes the log of a node.
+#[tactic(auto, using(crate::proofs::Unturned::for_another, crate::proofs::Unturned::passed, crate::proofs::Unturned::unended_unclosed, crate::proofs::Unturned::unserved_unclosed))]
 fn close_log(
     alloc: Global,
     text: &[u8],
@@ -145,6 +147,7 @@ pub(crate) fn end_log(alloc: Global, service: Service, kept: usize) -> Result<Cl
 }
 
 /// The node that makes a log, and how many of its bytes stay.
+#[tactic(auto, using(crate::proofs::Closing::is_served, crate::proofs::Unturned::refused_unserved))]
 fn open(
     alloc: Global,
     text: &[u8],
@@ -164,6 +167,7 @@ fn open(
 }
 
 /// Does what a line asks of the node.
+#[tactic(auto, using(crate::proofs::Lines::asked_on))]
 fn ask(alloc: Global, service: &mut Service, line: &[u8]) -> Result<(), AllocError>
     ensures asked { OnOk result (service.new ≡ after_line service.old line.now) }
     ensures on { OnOk result (AllByRecursion IsEnd (line_kept service.old line.now)
@@ -173,6 +177,7 @@ fn ask(alloc: Global, service: &mut Service, line: &[u8]) -> Result<(), AllocErr
 }
 
 /// Stops the node where it is up, and says whether it was.
+#[tactic(auto, using(crate::proofs::Lines::stop_ends, crate::proofs::Unturned::line_stops))]
 fn stop(alloc: Global, service: &mut Service) -> Result<bool, AllocError>
     ensures on { OnOk result (ServesOn service.old service.new) }
     ensures down { OnOk result (is_down service.new.state ≡ true) }
@@ -185,6 +190,7 @@ fn stop(alloc: Global, service: &mut Service) -> Result<bool, AllocError>
 }
 
 /// Starts the node, which is at rest, and gives the record that it left there.
+#[tactic(auto, using(crate::proofs::Lines::line_starts, crate::proofs::Lines::start_ends))]
 fn start(alloc: Global, service: &mut Service) -> Result<Vec<u8>, TurnFault>
     ensures on { OnOk result (ServesOn service.old service.new) }
     ensures started { IfOk result (λ kept. IsStarted service.new kept.items) }
@@ -199,6 +205,7 @@ fn start(alloc: Global, service: &mut Service) -> Result<Vec<u8>, TurnFault>
 }
 
 /// The log that begins with this rest; its node stops at once, where it does not stay up.
+#[tactic(auto, using(crate::proofs::Unturned::goes_nowhere, crate::proofs::Unturned::passed))]
 fn begun(
     alloc: Global,
     text: &[u8],

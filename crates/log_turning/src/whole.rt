@@ -256,6 +256,7 @@ fn parts_of<'a>(alloc: Global, files: &'a [LogFile]) -> Result<Vec<Part<'a>>, Al
 }
 
 /// The first log, in the last of these files.
+#[tactic(auto, using(crate::proofs::Older::first_is))]
 fn first_part(files: &[LogFile], reach: Reach) -> Part<'_>
     ensures { part_seen result ≡ first_part reach (bytes_in files.now) }
 {
@@ -302,6 +303,7 @@ fn owner_of(alloc: Global, rest: Option<&[u8]>) -> Result<Option<Node>, AllocErr
 }
 
 /// The bytes of the last of these files, which are taken.
+#[tactic(auto, using(crate::proofs::Older::last_is))]
 fn first_bytes(alloc: Global, files: Vec<LogFile>) -> Vec<u8>
     ensures { result.items ≡ first_in (bytes_in files.items) }
 {

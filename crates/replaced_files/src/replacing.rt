@@ -26,6 +26,7 @@ pub enum Fate {
 ///
 /// # Errors
 /// `SomeStay`, where nothing was done to any; or the first call of the system that failed: nothing is done after it.
+#[tactic(auto, using(crate::proofs::Each::all_followed))]
 pub fn replace_all<F: Files>(files: &mut F, fates: &[Fate]) -> Result<(), ReplaceFault>
     ensures each { IsFollowed (replacing_plan fates.now) (F.deeds files.old) (F.deeds files.new) }
     ensures refused { IfErr result (λ why. IsUnreplaced fates.now why (F.deeds files.old) (F.deeds files.new)) }
@@ -60,6 +61,7 @@ fn stays(fate: &Fate) -> bool
 }
 
 /// Replaces files, the first first; at a failure, the place of the file that it was for.
+#[tactic(auto, using(crate::proofs::Each::broken_off))]
 fn replace_each<F: Files>(files: &mut F, fates: &[Fate]) -> Result<(), (usize, io::Error)>
     ensures each { IsFollowed (plan_from 0 fates.now) (F.deeds files.old) (F.deeds files.new) }
     ensures failed { IfErr result (λ why. newest (fails_at why.0) (F.deeds files.new) ≡ true) }

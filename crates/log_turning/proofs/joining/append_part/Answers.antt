@@ -4,7 +4,7 @@ use Rattle.world_setup.specs.Seen.{node_seen}
 use Rattle.claim_model.proofs.Names.{same_is}
 use Rattle.settings_digest.proofs.Keeping.{turned_at}
 use Rattle.log_turning.specs.Joined.{part_seen}
-use Rattle.log_turning.proofs.Parts.{end_is, no_part_by, others_are, part_is}
+use Rattle.log_turning.proofs.Parts.{others_are, part_is}
 use Rattle.log_turning.proofs.joining.append_part.Goals as goal
 
 pub returns-in-Some-clause-appended : goal.returns-in-Some-clause-appended
@@ -20,12 +20,6 @@ returns-in-Some-clause-appended c = λ text are.
       is = is.text;
     }
 
-pub returns-in-Some-clause-ends : goal.returns-in-Some-clause-ends
-returns-in-Some-clause-ends c = λ text are.
-    let part = part_seen c.args.part.now in
-    let is = c.in-Ok.ensures.ok in
-    end_is text part c.turned-digest.result is.log c.in-Ok.appended.whole _ (c.turned-digest.ensures ∙ turned_at text part.rest c.args.digests.now part.log are) is.read c.saturating_sub.ensures
-
 pub returns-then-not-is_same_node-clause-refused : goal.returns-then-not-is_same_node-clause-refused
 returns-then-not-is_same_node-clause-refused c = λ text are.
     let part = part_seen c.args.part.now in
@@ -35,8 +29,3 @@ returns-then-not-is_same_node-clause-refused c = λ text are.
       others_are text node part c.turned-digest.result is.log (node_seen c.in-Ok.appended.node) c.in-Ok.appended.whole (c.turned-digest.ensures ∙ turned_at text part.rest c.args.digests.now part.log are) is.read is.own
           (sym c.is_same_node.ensures ∙ c.if-not-is_same_node.true),
     )
-
-pub returns-in-Err-clause-refused : goal.returns-in-Err-clause-refused
-returns-in-Err-clause-refused c = λ text are.
-    let part = part_seen c.args.part.now in
-    no_part_by text (node_seen c.args.node) part c.args.place c.turned-digest.result c.in-Err.fault c.fault_at.result (c.turned-digest.ensures ∙ turned_at text part.rest c.args.digests.now part.log are) c.in-Err.ensures.fault c.fault_at.ensures

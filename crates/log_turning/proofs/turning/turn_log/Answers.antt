@@ -10,7 +10,7 @@ use Rattle.log_turning.specs.declared.turning.Turned.{Turned}
 use Rattle.log_turning.specs.Turned.{IsNew}
 use Rattle.log_turning.specs.Unturned.{CanGoOn, IsUnturned}
 use Rattle.log_turning.proofs.Closing.{goes_on, is_turned, rest_of}
-use Rattle.log_turning.proofs.Unturned.{passed, unclosed_unturned}
+use Rattle.log_turning.proofs.Unturned.{passed}
 use Rattle.log_turning.proofs.turning.turn_log.Goals as goal
 
 pub returns-clause-turned : goal.returns-clause-turned
@@ -37,11 +37,6 @@ returns-clause-turned c =
     (subst (λ (references : List Reference). AllByRecursion FitsReference references) is.referred c.in_ok-begins.ensures.references) begins
     (omega (arith, c.in-Some.ensures, c.in_ok-calls_before.ensures, is.calls))
     (subst (λ (named : List ℕ). IsNew text node named turned.log.items) c.as_slice-3.ensures.value c.in_ok-log.ensures.new)
-
-pub returns-in_err-kept-clause-refused : goal.returns-in_err-kept-clause-refused
-returns-in_err-kept-clause-refused c =
-    passed c.from_residual.result _ (IsUnturned c.args.text.now (node_seen c.args.node) (option_copied c.args.rest) c.args.bytes.now) c.from_residual.ensures.1
-    (unclosed_unturned c.args.text.now (node_seen c.args.node) (option_copied c.args.rest) c.args.bytes.now _ c.in_err-kept.ensures.refused)
 
 pub returns-in_default-clause-refused : goal.returns-in_default-clause-refused
 returns-in_default-clause-refused c =
