@@ -16,6 +16,7 @@ ghost use Rattle.node_process.specs.Joined.{BeginsAtRest, IsNetwork, KeepPromise
 
 /// What `serve_all` asks of the system, at each moment of it, goes on from what the process before it left: over a log that
 /// begins with the settings, and over one that goes on after closed logs and begins with their rest.
+#[tactic(auto, using(crate::proofs::Following::follows))]
 pub fn processes_follow_one_another()
     ensures { (whose : Whose) (begun : List ℕ) (acts : List Act) (history : List Happening)
         → IsHistory whose begun history → acts_of history ≡ [] → BeginsWith (left_of begun history) acts
@@ -39,6 +40,7 @@ pub fn files_are_processes()
 /// answers. What ties the nodes is that each packet that a line has a node take was sent by a call which its sender had on its
 /// disk before; a process says no other (`files_are_processes`). The files with which all begin are those of some network at
 /// rest; empty ones are.
+#[tactic(auto, using(crate::proofs::Joining::empty_rest))]
 pub fn files_keep_promises()
     ensures promises { (text : List ℕ) (settings : Settings) (owners : Owners) (all : List Turn) → Spells text settings
         → Laws (context_of settings) → Accepts (context_of settings) (settings_seen settings) → IsNetwork text owners all

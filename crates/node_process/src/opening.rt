@@ -83,6 +83,7 @@ fn lacking(owner: &Owner<'_>, service: &Service) -> Option<u64>
 
 /// Has on disk what stays of a log of this many bytes before a word is said: then how many calls it has, and how many were made
 /// before it.
+#[tactic(auto, using(node_service::proofs::Begun::begins_with_rest))]
 pub(crate) fn lay_down<M: Machine>(
     alloc: Global,
     owner: &Owner<'_>,
@@ -127,6 +128,7 @@ fn trim<M: Machine>(
 }
 
 /// Appends the head of a log that is new.
+#[tactic(auto, using(crate::proofs::Moments::when_failed, crate::proofs::Remembering::head_breaks))]
 fn append_head<M: Machine>(
     owner: &Owner<'_>,
     machine: &mut M,
@@ -146,6 +148,7 @@ fn append_head<M: Machine>(
 }
 
 /// Has the log on disk: what an earlier process left may be in the system's memory alone.
+#[tactic(auto, using(crate::proofs::Moments::when_failed, crate::proofs::Remembering::settle_breaks))]
 fn settle<M: Machine>(
     owner: &Owner<'_>,
     machine: &mut M,

@@ -21,6 +21,7 @@ const MOST_BYTES: usize = 16_777_216;
 ///
 /// # Errors
 /// Memory was refused, or what has begun is longer than a line may be: `LongLine`.
+#[tactic(auto, using(crate::proofs::Splitting::none_ends, crate::proofs::Hearing::taken_all, crate::proofs::Hearing::taken_fits, crate::proofs::Hearing::nothing_ends, crate::proofs::Hearing::none_left, crate::proofs::Hearing::on_ok, crate::proofs::Hearing::whatever, crate::proofs::Hearing::too_much))]
 pub(crate) fn serve_heard(
     alloc: Global,
     service: &mut Service,
@@ -50,6 +51,7 @@ pub(crate) fn serve_heard(
 }
 
 /// The place of the first newline.
+#[tactic(auto, using(crate::proofs::Splitting::found_first))]
 fn newline_in(bytes: &[u8]) -> Option<usize>
     ensures first { result ≡ position is_newline bytes.now }
     ensures bound { IfSome result (λ place. place < length bytes.now) }

@@ -50,6 +50,7 @@ pub fn serve_all<M: Machine>(
 }
 
 /// Serves a node that was opened, and leaves it.
+#[tactic(auto, using(crate::proofs::Turning::stops_ends, crate::proofs::Turning::leaves))]
 fn live<M: Machine>(
     alloc: Global,
     owner: &Owner<'_>,
@@ -122,6 +123,7 @@ fn serve_opened<M: Machine>(
 }
 
 /// Serves turns until the input ends.
+#[tactic(auto, using(crate::proofs::Turning::turn_serves, crate::proofs::Turning::turn_held))]
 fn serve<M: Machine>(
     alloc: Global,
     owner: &Owner<'_>,
@@ -153,6 +155,7 @@ fn serve<M: Machine>(
 }
 
 /// Appends the records of a turn and syncs them, where there are any.
+#[tactic(auto, using(crate::proofs::Moments::append_runs, crate::proofs::Moments::sync_runs, crate::proofs::Moments::sync_logs, crate::proofs::Moments::when_done, crate::proofs::Moments::when_failed, crate::proofs::Moments::whatever_failed, crate::proofs::Remembering::append_breaks, crate::proofs::Remembering::sync_breaks))]
 fn keep_records<M: Machine>(owner: &Owner<'_>, machine: &mut M, service: &Service) -> io::Result<()>
     requires { Serves (owner_seen owner.now) (M.acts machine.old) service.now }
     ensures each { IsRun (owner_seen owner.now) (M.acts machine.new) }
@@ -169,6 +172,7 @@ fn keep_records<M: Machine>(owner: &Owner<'_>, machine: &mut M, service: &Servic
 }
 
 /// Says what came of a turn, whose records are on disk.
+#[tactic(auto, using(crate::proofs::Moments::say_runs, crate::proofs::Moments::say_serves, crate::proofs::Moments::whatever_failed, crate::proofs::Remembering::say_breaks))]
 fn say<M: Machine>(owner: &Owner<'_>, machine: &mut M, service: &mut Service) -> io::Result<()>
     requires { Logs (owner_seen owner.now) (M.acts machine.old) service.old }
     ensures each { IsRun (owner_seen owner.now) (M.acts machine.new) }

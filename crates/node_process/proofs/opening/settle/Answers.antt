@@ -1,9 +1,7 @@
 use Rattle.std.proofs.Common.{is_ok, ◌∷◌}
 use Rattle.node_process.specs.Acts.{Sync}
-use Rattle.node_process.specs.Ends.{Breaks}
 use Rattle.node_process.specs.Safe.{owner_seen, Begins}
-use Rattle.node_process.proofs.Moments.{settle_runs, settle_begins, when_done, when_failed}
-use Rattle.node_process.proofs.Remembering.{settle_breaks}
+use Rattle.node_process.proofs.Moments.{settle_runs, settle_begins, when_done}
 use Rattle.node_process.proofs.opening.settle.Goals as goal
 
 pub returns-clause-each : goal.returns-clause-each
@@ -14,9 +12,3 @@ returns-clause-begun g c =
     rw c.sync.ensures
     (when_done c.sync.result (λ done. Begins (owner_seen c.args.owner.now) (Sync done ∷ g.M.Machine.acts c.args.machine.now) c.args.whole c.args.service.now)
     (settle_begins (owner_seen c.args.owner.now) (g.M.Machine.acts c.args.machine.now) c.args.whole c.args.service.now c.requires))
-
-pub returns-clause-broken : goal.returns-clause-broken
-returns-clause-broken g c =
-    rw c.sync.ensures
-    (when_failed c.sync.result (λ done. Breaks (owner_seen c.args.owner.now) (Sync done ∷ g.M.Machine.acts c.args.machine.now) c.args.service.now)
-    (settle_breaks (owner_seen c.args.owner.now) (g.M.Machine.acts c.args.machine.now) c.args.whole c.args.service.now c.requires))

@@ -2,7 +2,7 @@ use Rattle.std.proofs.Common.{take, ◌∙◌, ap, ℕ, refl, arith}
 use Rattle.node_process.specs.Acts.{heard}
 use Rattle.node_process.specs.Safe.{owner_seen}
 use Rattle.node_process.proofs.Moments.{serves_runs}
-use Rattle.node_process.proofs.Turning.{turn_runs, turn_deaf, turn_serves, turn_on, turn_ends, turn_held, turn_breaks, turn_stops, turn_counts, stops_as}
+use Rattle.node_process.proofs.Turning.{turn_runs, turn_deaf, turn_on, turn_ends, turn_breaks, turn_stops, turn_counts, stops_as}
 use Rattle.node_process.proofs.serving.serve.Goals as goal
 
 pub returns-in_err-count-clause-each : goal.returns-in_err-count-clause-each
@@ -13,10 +13,6 @@ returns-then-count-eq0-clause-each g c = rw c.in_ok-count.ensures.heard (turn_ru
 
 pub returns-in_err-serve_heard-clause-each : goal.returns-in_err-serve_heard-clause-each
 returns-in_err-serve_heard-clause-each g c = rw c.in_ok-count.ensures.heard (turn_runs (owner_seen c.args.owner.now) (g.M.Machine.acts c.loop.machine) c.loop.service c.loop.pending.items (take c.in_ok-count.count c.hear.new.buffer) c.loop.invariant.0.0)
-
-pub keep_records-requires : goal.keep_records-requires
-keep_records-requires g c =
-    rw c.in_ok-count.ensures.heard (turn_serves (owner_seen c.args.owner.now) (g.M.Machine.acts c.loop.machine) c.loop.service c.serve_heard.new.service c.loop.pending.items (take c.in_ok-count.count c.hear.new.buffer) c.loop.invariant.0.0 c.in_ok-serve_heard.ensures.served c.in_ok-serve_heard.ensures.fits)
 
 pub loop-preserved : goal.loop-preserved
 loop-preserved g c =
@@ -40,10 +36,6 @@ pub returns-in_err-count-clause-why : goal.returns-in_err-count-clause-why
 returns-in_err-count-clause-why g c =
     stops_as (owner_seen c.args.owner.now) (g.M.Machine.acts c.hear.new.self) c.loop.service _ c.from_residual.result c.from_residual.ensures.1
     (rw c.in_err-count.ensures.failed (turn_breaks (owner_seen c.args.owner.now) (g.M.Machine.acts c.loop.machine) c.loop.service c.loop.pending.items c.loop.invariant.0.0))
-
-pub returns-then-count-eq0-clause-held : goal.returns-then-count-eq0-clause-held
-returns-then-count-eq0-clause-held g c =
-    rw c.in_ok-count.ensures.heard (turn_held (owner_seen c.args.owner.now) (g.M.Machine.acts c.loop.machine) c.loop.service c.loop.pending.items (take c.in_ok-count.count c.hear.new.buffer) (ap (λ (count : ℕ). take count c.hear.new.buffer) c.if-count-eq0.true) c.loop.invariant.0.0)
 
 pub returns-in_err-serve_heard-clause-why : goal.returns-in_err-serve_heard-clause-why
 returns-in_err-serve_heard-clause-why g c =
