@@ -34,6 +34,7 @@ use world_setup::{Call, Node};
 /// # Errors
 /// The first that stands: `Settings`, `World`, `Log` for the first log that is none under these settings. `OutOfMemory` may
 /// stand in place of any answer.
+#[tactic(auto, using(std::proofs::lemmas::Result::err_from_is_err_and, crate::proofs::Refusing::untaken_unread))]
 pub fn calls_table(alloc: Global, text: &[u8], logs: Vec<Vec<u8>>) -> Result<Vec<u8>, AuditFault>
     // What is told is what the bytes are under the settings that the text spells.
     ensures given { IfOk result (λ out. IsCallsTable text.now (bytes_of logs.items) out.items) }

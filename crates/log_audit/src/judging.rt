@@ -108,6 +108,7 @@ pub(crate) fn run_and_world(
 }
 
 /// What is found of logs that their nodes made: only the order of the calls is looked for.
+#[tactic(auto, using(crate::proofs::Ends::legal_is))]
 fn found_standing(
     alloc: Global,
     settings: &CheckedSettings,

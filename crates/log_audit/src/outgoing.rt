@@ -97,6 +97,7 @@ impl<K: TextSink + Drop> Outgoing<K> {
     }
 
     /// Ends a list of JSON: the comma after its last row goes.
+    #[tactic(auto, using(std::proofs::lemmas::Result::on_ok_weaker, crate::proofs::Commas::ended))]
     pub(crate) fn end_list(&mut self) -> Result<(), AllocError>
         ensures { OnOk result (self.new ≡ without_comma self.old ++ codes "\n]") }
     {

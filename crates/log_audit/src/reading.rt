@@ -115,6 +115,7 @@ pub fn opened(alloc: Global, logs: Vec<Vec<u8>>) -> Result<Vec<GivenLog>, AllocE
 /// # Errors
 /// The first that stands: `Settings`, `World`, `Reference` for the first log that has a reference which no node keeps, `Log` for
 /// the first log that is none under these settings. `OutOfMemory` may stand in place of any answer.
+#[tactic(auto, using(std::proofs::lemmas::Result::err_from_is_err_and, crate::proofs::Refusing::untaken_unread))]
 pub fn read_audited(
     alloc: Global,
     text: Vec<u8>,
@@ -166,6 +167,7 @@ impl ReadLogs {
     }
 
     /// Reads the next log, under settings of this digest.
+    #[tactic(auto, using(crate::proofs::LogReading::reads_one))]
     fn read_next(
         &mut self,
         alloc: Global,

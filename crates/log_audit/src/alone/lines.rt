@@ -61,6 +61,7 @@ fn put_lones(
 }
 
 /// Appends the line of a log, how many calls were made before it, and what it comes to.
+#[tactic(auto, using(std::proofs::lemmas::Result::on_ok_weaker, input_text::proofs::Joining::lists_join))]
 fn put_lone(
     alloc: Global,
     out: &mut Vec<u8>,
@@ -102,6 +103,7 @@ fn put_behind(out: &mut Vec<u8>, node: Node, before: u64) -> Result<(), AllocErr
 }
 
 /// Appends that a node makes its log, and what it has then.
+#[tactic(auto, using(std::proofs::lemmas::Result::on_ok_weaker, input_text::proofs::Joining::lists_join))]
 fn put_made(
     alloc: Global,
     out: &mut Vec<u8>,

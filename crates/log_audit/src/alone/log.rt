@@ -67,6 +67,7 @@ impl<'a> Lone<'a> {
 }
 
 /// What a log comes to by itself, which begins with this rest, where it goes on after closed ones.
+#[tactic(auto, using(crate::proofs::LoneNodes::not_begun, crate::proofs::LoneNodes::not_there))]
 pub(crate) fn lone_node(
     alloc: Global,
     settings: &CheckedSettings,

@@ -108,6 +108,7 @@ fn put_before(rows: &mut Vec<u8>, lones: &[Lone<'_>]) -> Result<(), AllocError>
 }
 
 /// Appends a row for a log, where calls were made before it.
+#[tactic(auto, using(crate::proofs::Joining::no_rows))]
 fn put_before_row(rows: &mut Vec<u8>, lone: &Lone<'_>) -> Result<(), AllocError>
     ensures { OnOk result (AddsRows style.Json rows.old rows.new (before_rows (lone_seen lone.now))) }
 {

@@ -101,6 +101,7 @@ fn put_lones<K: TextSink + Drop>(
 }
 
 /// Appends the rows of a table that the node of a log has.
+#[tactic(auto, using(crate::proofs::Joining::no_rows))]
 fn put_lone<K: TextSink + Drop>(
     alloc: Global,
     out: &mut Outgoing<K>,
@@ -119,6 +120,7 @@ fn put_lone<K: TextSink + Drop>(
 }
 
 /// Appends the rows of a table that a node has after its log.
+#[tactic(auto, using(crate::proofs::Joining::no_rows))]
 fn put_node<K: TextSink + Drop>(
     alloc: Global,
     out: &mut Outgoing<K>,
@@ -142,6 +144,7 @@ fn put_node<K: TextSink + Drop>(
 }
 
 /// Appends the rows of a payer's book.
+#[tactic(auto, using(crate::proofs::Joining::nothing_told))]
 fn put_book<K: TextSink + Drop>(
     alloc: Global,
     out: &mut Outgoing<K>,
@@ -158,6 +161,7 @@ fn put_book<K: TextSink + Drop>(
 }
 
 /// Appends the rows of a pharmacy's journal.
+#[tactic(auto, using(crate::proofs::Joining::nothing_told))]
 fn put_journal<K: TextSink + Drop>(
     alloc: Global,
     out: &mut Outgoing<K>,
@@ -218,6 +222,7 @@ fn put_open_entries<K: TextSink + Drop>(
 }
 
 /// Appends the row of an entry that is this many ticks old, if it has no answer.
+#[tactic(auto, using(crate::proofs::Joining::no_rows))]
 fn put_if_open(
     out: &mut Vec<u8>,
     style: Style,

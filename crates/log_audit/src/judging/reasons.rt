@@ -42,12 +42,14 @@ fn is_none(text: &[u8]) -> bool
 }
 
 /// Some reason is told.
+#[tactic(auto, using(crate::proofs::Telling::some_reason))]
 pub fn some_reason_is_told()
     ensures { SomeReason }
 {}
 
 /// That no order of the calls is a run is told only where no other reason is found: one log of each node and no other, each of
 /// which its node makes, and not every next call that is left waits.
+#[tactic(auto, using(crate::proofs::LastReason::last_reason))]
 pub fn last_reason_is_last()
     ensures { LastReason }
 {}

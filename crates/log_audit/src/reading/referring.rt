@@ -111,6 +111,7 @@ fn misnamed_in(
 }
 
 /// The first of these calls, or before them, whose reference is wrong.
+#[tactic(auto, using(crate::proofs::Lookups::before_found))]
 fn misnamed_behind(
     alloc: Global,
     rest: Option<&[u8]>,

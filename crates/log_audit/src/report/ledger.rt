@@ -140,6 +140,7 @@ pub(crate) fn is_open(entry: &EntryView) -> bool
 }
 
 /// What counted payments come to in cents, as far as 64 bits hold it.
+#[tactic(auto, using(crate::proofs::Counting::cents_are_all))]
 pub(crate) fn cents_of(paid: &[CountedPayment]) -> u64
     ensures { result ≡ in_cents (counted_total paid.now) }
 {

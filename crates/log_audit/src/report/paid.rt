@@ -191,6 +191,7 @@ fn count_of(paid: &[PaidOnce], of: Option<u64>, reversed: bool) -> u64
 }
 
 /// What the payments that are chosen come to in cents, as far as 64 bits hold it.
+#[tactic(auto, using(crate::proofs::Counting::cents_are_all))]
 fn cents_of(paid: &[PaidOnce], of: Option<u64>, reversed: bool) -> u64
     ensures { result ≡ in_cents (paid_total (is_chosen of reversed) paid.now) }
 {

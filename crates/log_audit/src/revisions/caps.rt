@@ -21,6 +21,7 @@ pub(crate) fn put_cap_names(out: &mut Vec<u8>, name: &[u8]) -> Result<(), AllocE
 }
 
 /// Appends the row of a change after these, if it is one of a cap.
+#[tactic(auto, using(crate::proofs::Changing::nothing_told))]
 pub(crate) fn put_cap_change(
     out: &mut Vec<u8>,
     settings: &WorldSettings,

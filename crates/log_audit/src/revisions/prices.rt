@@ -30,6 +30,7 @@ pub(crate) fn put_price_names(out: &mut Vec<u8>, name: &[u8]) -> Result<(), Allo
 }
 
 /// Appends the row of a change after these, if it is one of a price.
+#[tactic(auto, using(crate::proofs::Changing::unseen_told))]
 pub(crate) fn put_price_change(
     out: &mut Vec<u8>,
     settings: &WorldSettings,
@@ -84,6 +85,7 @@ fn opening_price(settings: &WorldSettings, payer: u64, product: &[u8]) -> Option
 }
 
 /// The price of a product on a plan.
+#[tactic(auto, using(crate::proofs::Pricing::listed_here, crate::proofs::Pricing::listed_behind))]
 fn listed_price(plan: &Plan, product: &[u8]) -> Option<u64>
     ensures { result ≡ listed_price plan.now.prices product.now }
 {

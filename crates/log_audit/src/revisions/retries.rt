@@ -54,6 +54,7 @@ pub(crate) fn put_rule_names(out: &mut Vec<u8>, name: &[u8]) -> Result<(), Alloc
 }
 
 /// Appends the row of a change after these, if it is one of a rule.
+#[tactic(auto, using(crate::proofs::Changing::unseen_told))]
 pub(crate) fn put_rule_change(
     out: &mut Vec<u8>,
     settings: &WorldSettings,

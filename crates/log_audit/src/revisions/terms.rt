@@ -38,6 +38,7 @@ pub(crate) fn put_terms_names(out: &mut Vec<u8>, name: &[u8]) -> Result<(), Allo
 }
 
 /// Appends the row of a change after these, if it is one of terms.
+#[tactic(auto, using(crate::proofs::Changing::nothing_told))]
 pub(crate) fn put_terms_change(
     out: &mut Vec<u8>,
     settings: &WorldSettings,

@@ -16,6 +16,7 @@ use std::alloc::{AllocError, Global};
 use std::collections::BTreeSet;
 
 /// The authorizations of all payments that one of these pharmacies counts.
+#[tactic(auto, using(crate::proofs::Authorizations::journals_go_on, crate::proofs::Authorizations::journals_are_done))]
 pub(crate) fn counted_auths(
     alloc: Global,
     nodes: &[PharmacyNode],
@@ -44,6 +45,7 @@ pub(crate) fn take_journal(
 }
 
 /// Adds the authorizations of payments.
+#[tactic(auto, using(crate::proofs::Authorizations::auths_go_on, crate::proofs::Authorizations::auths_are_done))]
 fn take_payments(auths: &mut BTreeSet<Auth>, paid: &[CountedPayment]) -> Result<(), AllocError>
     ensures { OnOk result (Joins auths.old.keys auths.new.keys (names_auth paid.now)) }
 {

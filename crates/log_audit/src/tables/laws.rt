@@ -17,6 +17,7 @@ ghost use Rattle.log_audit.specs.declared.tables.payments.PaidAt.{PaidAt};
 ghost use Rattle.log_audit.specs.declared.tables.table.Table.TheVariants.{Payments, Entries, Rows, Packets, Counted as CountedTable};
 
 /// Each row of a table has the columns that the line of names before the rows has, in its order.
+#[tactic(auto, using(crate::proofs::Naming::payments_named, crate::proofs::Naming::entries_named, crate::proofs::Naming::rulings_named, crate::proofs::Naming::packets_named, crate::proofs::Naming::counted_named))]
 pub fn rows_have_their_columns()
     ensures payments { (at : PaidAt) (counted : Bool) (p : PaymentView)
         → HasColumns (payment_row at counted p) Payments }

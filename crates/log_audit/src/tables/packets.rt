@@ -50,6 +50,7 @@ fn sender_at(senders: &[u64], place: usize) -> Option<u64>
 }
 
 /// Appends the row of a packet, where the event that sent it is told.
+#[tactic(auto, using(crate::proofs::Joining::no_rows))]
 fn put_sent(
     out: &mut Vec<u8>,
     style: Style,

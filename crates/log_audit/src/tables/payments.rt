@@ -104,6 +104,7 @@ fn put_row_payments(
 }
 
 /// Appends a row for the payment that a ruling made; nothing for another ruling.
+#[tactic(auto, using(crate::proofs::Joining::no_rows))]
 fn put_ruling_payment(
     out: &mut Vec<u8>,
     style: Style,
@@ -136,6 +137,7 @@ fn put_ruling_payment(
 }
 
 /// Appends the row of a payment, where there is one.
+#[tactic(auto, using(crate::proofs::Joining::no_rows))]
 fn put_found(
     out: &mut Vec<u8>,
     style: Style,

@@ -15,6 +15,7 @@ use world_setup::{Event, Fault};
 
 /// Makes these events in order, refused ones included, and gives for each packet that they send the number of its event,
 /// from 1.
+#[tactic(auto, using(world_core::proofs::Runs::run_goes_on, world_core::proofs::Runs::run_is_done, crate::proofs::Running::senders_go_on, crate::proofs::Running::senders_are_told))]
 pub(crate) fn run_noting(
     alloc: Global,
     world: &mut World,
@@ -52,6 +53,7 @@ fn make(
 }
 
 /// Notes the number of an event for each of these packets.
+#[tactic(auto, using(crate::proofs::Running::none_more))]
 fn note(senders: &mut Vec<u64>, number: u64, sent: Range<u64>) -> Result<(), AllocError>
     ensures { OnOk result (Adds senders.old senders.new (replicate (sent.end - sent.start) number)) }
 {

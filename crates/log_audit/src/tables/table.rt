@@ -138,6 +138,7 @@ fn put_member<K: TextSink + Drop>(
 }
 
 /// Appends the rows of a table as a list of JSON.
+#[tactic(auto, using(std::proofs::lemmas::Result::on_ok_weaker, crate::proofs::Passing::list_ended))]
 fn put_rows_list<K: TextSink + Drop>(
     alloc: Global,
     out: &mut Outgoing<K>,
@@ -168,6 +169,7 @@ fn put_table<K: TextSink + Drop>(
 }
 
 /// Appends the rows of a table of what a run left.
+#[tactic(auto, using(crate::proofs::Joining::no_rows))]
 fn put_run_table<K: TextSink + Drop>(
     alloc: Global,
     out: &mut Outgoing<K>,

@@ -6,14 +6,9 @@ use Rattle.settings_digest.specs.Digests.{digest_under}
 use Rattle.log_audit.specs.Given.{bytes_of, read_by}
 use Rattle.log_audit.specs.Refused.{AreNoLogs}
 use Rattle.log_audit.specs.Calls.{AreKept}
-use Rattle.log_audit.proofs.Refusing.{untaken_unread, logs_refused}
+use Rattle.log_audit.proofs.Refusing.{logs_refused}
 use Rattle.log_audit.proofs.Calling.{table_is}
 use Rattle.log_audit.proofs.calls.calls_table.Goals as goal
-
-pub returns-in_err-settings-clause-refused : goal.returns-in_err-settings-clause-refused
-returns-in_err-settings-clause-refused c =
-    let p = err_from_is_err_and c.from_residual-in_err-settings.result c.from_residual-in_err-settings.ensures.1 in
-    rw (p.1, p.2) (untaken_unread c.args.text.now (read_by (digest_under c.args.text.now)) (bytes_of c.args.logs.items) None c.in_err-settings.field-0.0 c.in_err-settings.ensures.refused)
 
 pub returns-in_err-put_logs-clause-refused : goal.returns-in_err-put_logs-clause-refused
 returns-in_err-put_logs-clause-refused c =

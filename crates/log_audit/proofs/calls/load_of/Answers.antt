@@ -1,9 +1,6 @@
 use Rattle.std.proofs.Common.{refl}
 use Rattle.log_audit.proofs.calls.load_of.Goals as goal
 
-pub returns-in-Submit : goal.returns-in-Submit
-returns-in-Submit c = λ routes. rw (c.in-Submit.is, c.number_of.ensures) refl
-
 pub returns-in-Take : goal.returns-in-Take
 returns-in-Take c = λ routes. rw (c.in-Take.is, c.carried_in.ensures routes, c.as_slice.ensures) refl
 

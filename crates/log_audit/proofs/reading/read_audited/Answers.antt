@@ -1,19 +1,12 @@
-use Rattle.std.proofs.Common.{◌≡◌, ◌∙◌, ap, subst, Some, None, ℕ, List, map}
+use Rattle.std.proofs.Common.{◌≡◌, ◌∙◌, ap, subst, None, ℕ, List, map}
 use Rattle.std.proofs.lemmas.Result.{err_from_is_err_and}
 use Rattle.node_log.specs.LogSeen.{logs_seen}
 use Rattle.log_audit.specs.Given.{AreLogs, Given, digest_of, given_of, read_given, torn_given}
 use Rattle.log_audit.specs.Refused.{AreNoLogs}
 use Rattle.log_audit.specs.Names.{IsMisnamed, misnamed_log}
 use Rattle.log_audit.proofs.LogReading.{given_is}
-use Rattle.log_audit.proofs.Refusing.{untaken_unread, logs_refused, names_refused}
+use Rattle.log_audit.proofs.Refusing.{logs_refused, names_refused}
 use Rattle.log_audit.proofs.reading.read_audited.Goals as goal
-
-pub returns-in_err-settings-clause-refused : goal.returns-in_err-settings-clause-refused
-returns-in_err-settings-clause-refused c =
-    let text = c.args.text.items in
-    let given = given_of c.args.logs.items in
-    let p = err_from_is_err_and c.from_residual-in_err-settings.result c.from_residual-in_err-settings.ensures.1 in
-    rw (p.1, p.2) (untaken_unread text (read_given (digest_of text)) given (misnamed_log (digest_of text) given) c.in_err-settings.field-0.0 (rw c.as_slice.ensures.value at c.in_err-settings.ensures.refused))
 
 pub returns-in_err-read-clause-refused : goal.returns-in_err-read-clause-refused
 returns-in_err-read-clause-refused c =

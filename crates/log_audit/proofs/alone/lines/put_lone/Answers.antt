@@ -8,10 +8,3 @@ returns-in-Made c = λ routes. rw c.in-Made.is
     (λ last. lists_join c.args.out.now.items c.put_log.new.text.items c.put_made.new.out.items _ _ c.in_ok-put_log.ensures
     (lists_join c.put_log.new.text.items c.put_before.new.out.items c.put_made.new.out.items _ _ c.in_ok-put_before.ensures last))
     (c.put_made.ensures routes))
-
-pub returns-in-NotMade : goal.returns-in-NotMade
-returns-in-NotMade c = λ routes. rw c.in-NotMade.is
-    (on_ok_weaker c.put_told.result
-    (λ last. lists_join c.args.out.now.items c.put_log.new.text.items c.put_told.new.out.items _ _ c.in_ok-put_log.ensures
-    (lists_join c.put_log.new.text.items c.put_before.new.out.items c.put_told.new.out.items _ _ c.in_ok-put_before.ensures last))
-    (rw c.as_slice.ensures.value at c.put_told.ensures))

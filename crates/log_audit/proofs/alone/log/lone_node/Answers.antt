@@ -10,26 +10,8 @@ use Rattle.log_audit.specs.Alone.{ended, lone_node}
 use Rattle.log_audit.specs.AloneSeen.{came_seen}
 use Rattle.log_audit.specs.Telling.{context_for}
 use Rattle.log_audit.specs.Wrongs.{calls_made}
-use Rattle.log_audit.proofs.LoneNodes.{begun_so, not_begun, not_there}
+use Rattle.log_audit.proofs.LoneNodes.{begun_so}
 use Rattle.log_audit.proofs.alone.log.lone_node.Goals as goal
-
-pub returns-then-not-is_there : goal.returns-then-not-is_there
-returns-then-not-is_there c =
-    let s = c.args.settings.now in
-    let log = log_seen c.args.log.now in
-    not_there (context_for s) log (node_at (opening (settings_seen s)) log.node) (begins s log.node (option_copied c.args.rest)) _
-    (sym (rw (c.settings.ensures.kept, c.node.ensures) at c.is_there.ensures.value) ∙ c.if-not-is_there.true)
-    (rw c.node-then-not-is_there.ensures at c.in_ok-line.ensures)
-
-pub returns-in_default : goal.returns-in_default
-returns-in_default c =
-    let s = c.args.settings.now in
-    let log = log_seen c.args.log.now in
-    not_begun (context_for s) log (node_at (opening (settings_seen s)) log.node) (begins s log.node (option_copied c.args.rest)) _ _
-    (sym (rw (c.settings.ensures.kept, c.node.ensures) at c.is_there.ensures.value) ∙ c.if-not-is_there.false)
-    c.in_default.not-Some
-    (rw c.node-2.ensures at c.in_ok-before.ensures.node)
-    (rw c.node-in_default.ensures at c.in_ok-line-2.ensures)
 
 pub returns : goal.returns
 returns c =

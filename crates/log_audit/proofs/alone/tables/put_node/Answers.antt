@@ -1,4 +1,3 @@
-use Rattle.log_audit.proofs.Joining.{no_rows}
 use Rattle.log_audit.proofs.alone.tables.put_node.Goals as goal
 
 pub returns-in-Payments : goal.returns-in-Payments
@@ -9,9 +8,6 @@ returns-in-Entries g c = λ routes. rw c.in-Entries.is (c.put_journal.ensures ro
 
 pub returns-in-Rows : goal.returns-in-Rows
 returns-in-Rows g c = λ routes. rw c.in-Rows.is (c.put_book-in-Rows.ensures routes)
-
-pub returns-in-Packets : goal.returns-in-Packets
-returns-in-Packets g c = λ routes. rw c.in-Packets.is (no_rows c.args.style c.args.out.now)
 
 pub returns-in-Open : goal.returns-in-Open
 returns-in-Open g c = λ routes. rw c.in-Open.is (c.put_journal-in-Open.ensures routes)

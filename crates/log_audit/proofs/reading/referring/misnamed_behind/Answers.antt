@@ -1,13 +1,8 @@
 use Rattle.kept_logs.specs.Rests.{references_before}
 use Rattle.std.specs.Option.{option_copied}
 use Rattle.log_audit.specs.Names.{uses_from}
-use Rattle.log_audit.proofs.Lookups.{before_found, behind_found}
+use Rattle.log_audit.proofs.Lookups.{behind_found}
 use Rattle.log_audit.proofs.reading.referring.misnamed_behind.Goals as goal
-
-pub returns-in-Some : goal.returns-in-Some
-returns-in-Some c =
-    before_found c.new-known.result.keys c.misnamed_before.new.known.keys c.as_slice.result.now c.in_ok-references.references.items (references_before (option_copied c.args.rest)) (uses_from 1 c.args.calls.now)
-    c.in_ok-it.field-0 c.in-Some.it c.new-known.ensures.empty c.as_slice.ensures.value c.in_ok-references.ensures c.in-Some.is c.in_ok-it.ensures
 
 pub returns : goal.returns
 returns c =

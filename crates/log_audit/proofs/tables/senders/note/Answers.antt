@@ -1,8 +1,5 @@
-use Rattle.log_audit.proofs.Running.{one_more, none_more}
+use Rattle.log_audit.proofs.Running.{one_more}
 use Rattle.log_audit.proofs.tables.senders.note.Goals as goal
 
 pub loop-preserved : goal.loop-preserved
 loop-preserved c = one_more c.loop.senders.items c.push.new.self.items _ c.args.number _ c.loop.counter c.loop-test.true c.in_ok-push.ensures.items c.loop.invariant
-
-pub returns : goal.returns
-returns c = none_more c.loop.senders.items _ c.args.number _ c.loop.counter c.loop-test.false c.loop.invariant

@@ -1,5 +1,0 @@
-use Rattle.log_audit.proofs.Changing.{unseen_told}
-use Rattle.log_audit.proofs.revisions.prices.put_price_change.Goals as goal
-
-pub returns-in-None : goal.returns-in-None
-returns-in-None c = unseen_told _ _ c.args.out.now.items _ _ c.in-None.is c.price_of.ensures
