@@ -1,7 +1,7 @@
 mod Counts
 mod NodesGrown
 mod TableRows
-mod RangedRows
+mod PaidRows
 mod RoutesGrown
 mod RejectedRows
 mod Among

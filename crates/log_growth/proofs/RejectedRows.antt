@@ -1,24 +1,26 @@
 -- Where no new row lets requests stay rejected that may have had a route, what had a route does not stay rejected.
-use Rattle.std.proofs.Common.{◌≡◌, ◌⊎◌, ℕ, zero, suc, ◌+◌, ◌-◌, ◌≤◌, Bool, true, false, not, ◌&&◌, ◌||◌, ◌==◌, cond, nat_le, List, [], ◌∷◌, ◌++◌, map, length, replicate, Option, Some, None, is_none, inl, inr, refl, sym, ap, ◌∙◌, subst, arith, append_assoc, append-nil, eqb-true, leb-true}
-use Rattle.std.specs.Prelude.{⊤, bytes_eq, slice_index}
-use Rattle.std.specs.Option.{option_or, option_map, option_map_or}
-use Rattle.std.specs.List.{list_any, filter_map, cons_option, position_from}
+use Rattle.std.proofs.Common.{◌≡◌, ◌⊎◌, ℕ, zero, suc, ◌+◌, ◌-◌, ◌≤◌, Bool, true, false, not, ◌&&◌, ◌==◌, cond, nat_le, List, [], ◌∷◌, ◌++◌, map, length, replicate, Option, Some, None, is_none, inl, inr, refl, sym, ap, ◌∙◌, subst, arith, append_assoc, eqb-true, leb-true}
+use Rattle.std.specs.Prelude.{bytes_eq, slice_index}
+use Rattle.std.specs.Option.{option_map, option_map_or}
+use Rattle.std.specs.List.{list_any, filter_map, position_from}
 use Rattle.std.specs.Ordering.{eq_by_cmp}
 use Rattle.std.specs.Cmp.Lexicographic.{texts_ties, nat_list_cmp_total}
-use Rattle.std.specs.FinMap.{find, get, from_entries, get-from_entries}
-use Rattle.std.proofs.lemmas.Bool.{and_parts}
+use Rattle.std.specs.FinMap.{get-from_entries}
+use Rattle.std.proofs.lemmas.Bool.{and_parts, both_ways, cases_Bool, not-true}
+use Rattle.std.proofs.lemmas.Option.{cond_some, none-some, same_Some}
 use Rattle.std.proofs.lemmas.List.{length-append, length-replicate}
 use Rattle.bin_routes.specs.declared.fault.RoutesFault.{RoutesFault}
 use Rattle.bin_routes.specs.declared.fault.RoutesFault.TheVariants.{BadBin, BadPcn}
 use Rattle.bin_routes.specs.Key.{RouteKey}
 use Rattle.bin_routes.specs.Providers.{Providers}
 use Rattle.bin_routes.specs.Row.{Row, leads, leading, is_bin, is_pcn, has_pcn, ends_in_space, filled, filled_row}
-use Rattle.bin_routes.specs.Fault.{has_end, text_fault, row_fault, is_among, is_taken, fault_behind, first_fault}
-use Rattle.bin_routes.specs.Table.{bin_cmp, text_of, key_text, key_by, rejected_key, entry_by, rejected_entry, routes_of, payer_of, stays_rejected, payer_under}
+use Rattle.bin_routes.specs.Fault.{text_fault, row_fault, is_taken, fault_behind, first_fault}
+use Rattle.bin_routes.specs.Table.{bin_cmp, text_of, key_text, key_by, rejected_key, entry_by, rejected_entry, routes_of, stays_rejected}
 use Rattle.claim_model.proofs.Tests.{bytes_same, bytes_self}
-use Rattle.claim_model.specs.Journal.{PharmacySettings}
 use Rattle.log_growth.specs.Compared.{same_row, has_bin, is_for, covers, rejects_routed}
-use Rattle.log_growth.proofs.TableRows.{Found, In, among, clash, first_none, from_leading, in_last, in_more, none_any, none_at, not_taken}
+use Rattle.log_growth.proofs.NodesGrown.{neither}
+use Rattle.log_growth.proofs.TableRows.{Alone, In, Takes, Untaken, among, any_true, first, first_is, first_row, from_leading, none_at, one_row, rejecting_takes, untaken}
+use Rattle.log_growth.proofs.PaidRows.{found_first, hit, hit_by}
 use Rattle.log_growth.proofs.RoutesGrown.{OfKey}
 
 -- ---- texts of keys
@@ -60,7 +62,7 @@ no_spaces (y ∷ q) (suc k) l free e =
     let space : 32 ≡ y = cc in
     let rest : replicate k 32 ≡ q ++ replicate l 32 = cc in
     let none : [] ≡ q = no_spaces q k l (tail_of y q free) rest in
-    clash ([] ≡ y ∷ q) (ends_in_space (y ∷ q)) (ap (λ (z : List ℕ). ends_in_space (y ∷ z)) (sym none) ∙ ap (λ (z : ℕ). z == 32) (sym space)) free
+    absurd (both_ways (ends_in_space (y ∷ q)) free (ap (λ (z : List ℕ). ends_in_space (y ∷ z)) (sym none) ∙ ap (λ (z : ℕ). z == 32) (sym space)))
 
 padded : (p q : List ℕ) (k l : ℕ) → ends_in_space p ≡ false → ends_in_space q ≡ false → p ++ replicate k 32 ≡ q ++ replicate l 32 → p ≡ q
 padded [] q k l f g e = no_spaces q k l g e
@@ -70,14 +72,10 @@ padded (x ∷ p) (y ∷ q) k l f g e =
     let rest : p ++ replicate k 32 ≡ q ++ replicate l 32 = cc in
     ap (λ (z : ℕ). z ∷ p) first ∙ ap (λ (z : List ℕ). y ∷ z) (padded p q k l (tail_of x p f) (tail_of y q g) rest)
 
-not_true : (b : Bool) → not b ≡ true → b ≡ false
-not_true true e = absurd cc
-not_true false e = refl
-
 filled_apart : (p q : List ℕ) → is_pcn p ≡ true → is_pcn q ≡ true → filled p ≡ filled q → p ≡ q
 unfolding is_pcn filled
 filled_apart p q a b e =
-    padded p q _ _ (not_true (ends_in_space p) (and_parts _ (not (ends_in_space p)) a).1) (not_true (ends_in_space q) (and_parts _ (not (ends_in_space q)) b).1) e
+    padded p q _ _ (not-true (ends_in_space p) (and_parts _ (not (ends_in_space p)) a).1) (not-true (ends_in_space q) (and_parts _ (not (ends_in_space q)) b).1) e
 
 filled_long : (p : List ℕ) → is_pcn p ≡ true → length (filled p) ≡ 10
 unfolding is_pcn filled
@@ -111,9 +109,9 @@ texts_by payers place r e =
 texts_in : (payers : ℕ) (earlier rows : List Row) (r : Row) → fault_behind payers earlier rows ≡ None → In r rows → Texts r
 texts_in payers earlier [] r none i = absurd i
 texts_in payers earlier (x ∷ rows) r none i =
-    let here = first_none (row_fault payers (length earlier) x (is_taken earlier x)) (fault_behind payers (earlier ++ x ∷ []) rows) none in
+    let here = neither (row_fault payers (length earlier) x (is_taken earlier x)) (fault_behind payers (earlier ++ x ∷ []) rows) none in
     elim i [
-      | inl same ↦ subst Texts same (texts_by payers (length earlier) x (first_none (text_fault payers (length earlier) x) _ here.0).0)
+      | inl same ↦ subst Texts same (texts_by payers (length earlier) x (neither (text_fault payers (length earlier) x) _ here.0).0)
       | inr j ↦ texts_in payers (earlier ++ x ∷ []) rows r here.1 j
     ]
 
@@ -122,101 +120,37 @@ texts_in payers earlier (x ∷ rows) r none i =
 abbrev entries : List Row → List (List ℕ × ℕ)
 entries rows = filter_map rejected_entry (map filled_row rows)
 
--- one of this key and this last number
-record Rejecting (rows : List Row) (key : List ℕ) (last : ℕ) : Type 0 where
-  row : Row
-  is_in : In row rows
+-- the last number of a row of this key
+abbrev last_of : List ℕ → Row → Option ℕ
+last_of key = hit_by bin_cmp rejected_entry key
+
+record Rejecting (key : List ℕ) (row : Row) (last : ℕ) : Type 0 where
   key_is : rejected_key (filled_row row) ≡ Some key
   last_is : row.rejected ≡ Some last
 
-rejecting_later : (x : Row) (rows : List Row) (key : List ℕ) (last : ℕ) → Rejecting rows key last → Rejecting (x ∷ rows) key last
-rejecting_later x rows key last r = record { row = r.row; is_in = inr r.is_in; key_is = r.key_is; last_is = r.last_is }
-
-rejecting_test : (x : Row) (rows : List Row) (key other : List ℕ) (last n : ℕ) (t : Bool) → (find bin_cmp key (entries rows) ≡ Some last → Rejecting rows key last) → rejected_key (filled_row x) ≡ Some other → x.rejected ≡ Some n
-    → eq_by_cmp bin_cmp key other ≡ t → cond t (Some n) (find bin_cmp key (entries rows)) ≡ Some last → Rejecting (x ∷ rows) key last
-rejecting_test x rows key other last n true later has is same e =
-    record { row = x; is_in = inl refl; key_is = has ∙ ap (λ (z : List ℕ). Some z) (sym (bytes_same key other (texts_ties key other ∙ same))); last_is = is ∙ e }
-rejecting_test x rows key other last n false later has is same e = rejecting_later x rows key last (later e)
-
-rejecting_by : (x : Row) (rows : List Row) (key : List ℕ) (last : ℕ) (o : Option ℕ) (q : Option (List ℕ)) → (find bin_cmp key (entries rows) ≡ Some last → Rejecting rows key last) → x.rejected ≡ o → rejected_key (filled_row x) ≡ q
-    → find bin_cmp key (cons_option (entry_by o q) (entries rows)) ≡ Some last → Rejecting (x ∷ rows) key last
-rejecting_by x rows key last None q later is has e = rejecting_later x rows key last (later e)
-rejecting_by x rows key last (Some n) None later is has e = rejecting_later x rows key last (later e)
-rejecting_by x rows key last (Some n) (Some other) later is has e = rejecting_test x rows key other last n (eq_by_cmp bin_cmp key other) later has is refl e
-
-rejecting_row : (rows : List Row) (key : List ℕ) (last : ℕ) → find bin_cmp key (entries rows) ≡ Some last → Rejecting rows key last
-rejecting_row [] key last e = absurd cc
-rejecting_row (x ∷ rows) key last e = rejecting_by x rows key last x.rejected (rejected_key (filled_row x)) (rejecting_row rows key last) refl refl e
-
--- where one of a key is there, something is found under it
-found_either : (t : Bool) (n : ℕ) (rest : Option ℕ) → Found rest → Found (cond t (Some n) rest)
-found_either true n rest f = record { value = n; is = refl }
-found_either false n rest f = f
-
-found_more : (key : List ℕ) (rows : List Row) (entry : Option (List ℕ × ℕ)) → Found (find bin_cmp key (entries rows)) → Found (find bin_cmp key (cons_option entry (entries rows)))
-found_more key rows None f = f
-found_more key rows (Some e) f = found_either (eq_by_cmp bin_cmp key e.0) e.1 (find bin_cmp key (entries rows)) f
-
-found_here : (key : List ℕ) (n : ℕ) (rest : Option ℕ) → Found (cond (eq_by_cmp bin_cmp key key) (Some n) rest)
-found_here key n rest = record { value = n; is = ap (λ (t : Bool). cond t (Some n) rest) (sym (texts_ties key key) ∙ bytes_self key) }
-
-some_rejected : (rows : List Row) (r : Row) (key : List ℕ) (last : ℕ) → In r rows → rejected_key (filled_row r) ≡ Some key → r.rejected ≡ Some last → Found (find bin_cmp key (entries rows))
-some_rejected [] r key last i has is = absurd i
-some_rejected (x ∷ rows) r key last (inl same) has is =
-    let entry : rejected_entry (filled_row x) ≡ Some (key, last) = ap (λ (z : Row). rejected_entry (filled_row z)) same ∙ (ap (λ (o : Option ℕ). entry_by o (rejected_key (filled_row r))) is ∙ ap (entry_by (Some last)) has) in
-    subst (λ (e : Option (List ℕ × ℕ)). Found (find bin_cmp key (cons_option e (entries rows)))) (sym entry) (found_here key last (find bin_cmp key (entries rows)))
-some_rejected (x ∷ rows) r key last (inr i) has is = found_more key rows (rejected_entry (filled_row x)) (some_rejected rows r key last i has is)
-
--- each key is that of one row
-abbrev Keys : List Row → List Row → Type 0
-Keys earlier [] = ⊤
-Keys earlier (x ∷ rows) = (leads x ≡ false → is_among (entries earlier) (rejected_key (filled_row x)) ≡ false) × Keys (earlier ++ x ∷ []) rows
-
-keys_by : (earlier : List Row) (x : Row) → is_taken earlier x ≡ false → leads x ≡ false → is_among (entries earlier) (rejected_key (filled_row x)) ≡ false
-keys_by earlier x free is =
-    sym (ap (λ (t : Bool). cond t (list_any (Rattle.bin_routes.specs.Row.same_key (filled_row x)) (map filled_row (leading earlier))) (is_among (entries earlier) (rejected_key (filled_row x)))) is) ∙ free
-
-all_keys : (payers : ℕ) (earlier rows : List Row) → fault_behind payers earlier rows ≡ None → Keys earlier rows
-all_keys payers earlier [] none = tt
-all_keys payers earlier (x ∷ rows) none =
-    let here = first_none (row_fault payers (length earlier) x (is_taken earlier x)) (fault_behind payers (earlier ++ x ∷ []) rows) none in
-    (keys_by earlier x (not_taken (text_fault payers (length earlier) x) (is_taken earlier x) (length earlier) here.0), all_keys payers (earlier ++ x ∷ []) rows here.1)
-
-or_true : (a b : Bool) → b ≡ true → (a || b) ≡ true
-or_true true b e = refl
-or_true false b e = e
-
-among_more : (key : List ℕ) (rows : List Row) (entry : Option (List ℕ × ℕ)) → is_among (entries rows) (Some key) ≡ true → is_among (cons_option entry (entries rows)) (Some key) ≡ true
-among_more key rows None e = e
-among_more key rows (Some f) e = or_true (bytes_eq key f.0) (list_any (λ (g : List ℕ × ℕ). bytes_eq key g.0) (entries rows)) e
-
-is_there : (rows : List Row) (r : Row) (key : List ℕ) (last : ℕ) → In r rows → rejected_key (filled_row r) ≡ Some key → r.rejected ≡ Some last → is_among (entries rows) (Some key) ≡ true
-is_there [] r key last i has is = absurd i
-is_there (x ∷ rows) r key last (inl same) has is =
-    let entry : rejected_entry (filled_row x) ≡ Some (key, last) = ap (λ (z : Row). rejected_entry (filled_row z)) same ∙ (ap (λ (o : Option ℕ). entry_by o (rejected_key (filled_row r))) is ∙ ap (entry_by (Some last)) has) in
-    subst (λ (e : Option (List ℕ × ℕ)). is_among (cons_option e (entries rows)) (Some key) ≡ true) (sym entry) (ap (λ (t : Bool). t || list_any (λ (g : List ℕ × ℕ). bytes_eq key g.0) (entries rows)) (bytes_self key))
-is_there (x ∷ rows) r key last (inr i) has is = among_more key rows (rejected_entry (filled_row x)) (is_there rows r key last i has is)
+rejecting : (key : List ℕ) (x : Row) (last : ℕ) → last_of key x ≡ Some last → Rejecting key x last
+rejecting key x last e = known x.rejected (rejected_key (filled_row x)) refl refl e
+  where
+    known : (o : Option ℕ) (q : Option (List ℕ)) → x.rejected ≡ o → rejected_key (filled_row x) ≡ q → hit bin_cmp key (entry_by o q) ≡ Some last → Rejecting key x last
+    known None q is has e = absurd (none-some last e)
+    known (Some n) None is has e = absurd (none-some last e)
+    known (Some n) (Some other) is has e =
+        let h = cond_some (eq_by_cmp bin_cmp key other) n last e in
+        record { key_is = has ∙ ap Some (sym (bytes_same key other (texts_ties key other ∙ h.0))); last_is = is ∙ ap Some h.1 }
 
 not_leading : (r : Row) (last : ℕ) → r.rejected ≡ Some last → leads r ≡ false
 not_leading r last is = ap is_none is
 
--- not one that comes after another of its key
-not_after : (earlier rows : List Row) (r e : Row) (key : List ℕ) (m n : ℕ) → Keys earlier rows → In r rows → In e earlier → rejected_key (filled_row r) ≡ Some key → rejected_key (filled_row e) ≡ Some key → r.rejected ≡ Some m → e.rejected ≡ Some n → ⊥
-not_after earlier [] r e key m n k i j has_r has_e is_r is_e = absurd i
-not_after earlier (x ∷ rows) r e key m n k (inl same) j has_r has_e is_r is_e =
-    clash ⊥ (is_among (entries earlier) (rejected_key (filled_row r)))
-    (ap (is_among (entries earlier)) has_r ∙ is_there earlier e key n j has_e is_e)
-    (subst (λ (z : Row). is_among (entries earlier) (rejected_key (filled_row z)) ≡ false) same (k.0 (ap leads same ∙ not_leading r m is_r)))
-not_after earlier (x ∷ rows) r e key m n k (inr i) j has_r has_e is_r is_e = not_after (earlier ++ x ∷ []) rows r e key m n k.1 i (in_more e earlier (x ∷ []) j) has_r has_e is_r is_e
+-- each key is that of one row
+takes : (key : List ℕ) (x y : Row) (a b : ℕ) → Rejecting key x a → Rejecting key y b → Takes x y
+takes key x y a b s t = rejecting_takes x y key a (not_leading y b t.last_is) t.key_is ((λ i. entry_by (s.last_is i) (s.key_is i)))
 
-one_row : (earlier rows : List Row) (r e : Row) (key : List ℕ) (m n : ℕ) → Keys earlier rows → In r rows → In e rows → rejected_key (filled_row r) ≡ Some key → rejected_key (filled_row e) ≡ Some key → r.rejected ≡ Some m → e.rejected ≡ Some n → r ≡ e
-one_row earlier [] r e key m n k i j has_r has_e is_r is_e = absurd i
-one_row earlier (x ∷ rows) r e key m n k (inl p) (inl q) has_r has_e is_r is_e = sym p ∙ q
-one_row earlier (x ∷ rows) r e key m n k (inl p) (inr j) has_r has_e is_r is_e =
-    absurd (not_after (earlier ++ x ∷ []) rows e r key n m k.1 j (subst (λ (w : Row). In w (earlier ++ x ∷ [])) p (in_last x earlier)) has_e has_r is_e is_r)
-one_row earlier (x ∷ rows) r e key m n k (inr i) (inl q) has_r has_e is_r is_e =
-    absurd (not_after (earlier ++ x ∷ []) rows r e key m n k.1 i (subst (λ (w : Row). In w (earlier ++ x ∷ [])) q (in_last x earlier)) has_r has_e is_r is_e)
-one_row earlier (x ∷ rows) r e key m n k (inr i) (inr j) has_r has_e is_r is_e = one_row (earlier ++ x ∷ []) rows r e key m n k.1 i j has_r has_e is_r is_e
+one_last : (rows : List Row) (key : List ℕ) → Untaken [] rows → Alone (last_of key) rows
+one_last rows key none x y a b i j e f =
+    let s = rejecting key x a e in
+    let t = rejecting key y b f in
+    let same = one_row [] rows x y none i j (takes key x y a b s t) (takes key y x b a t s) in
+    same_Some a b (sym s.last_is ∙ (ap (λ (z : Row). z.rejected) same ∙ t.last_is))
 
 -- ---- what such a row has
 
@@ -257,14 +191,10 @@ covering r o key tr to has lead bin pcn =
 by_last : ℕ → Option ℕ → Bool
 by_last number o = option_map_or (λ last. nat_le number last) o false
 
-rejected_is : (rows : List Row) (number : ℕ) (key : RouteKey) → stays_rejected (routes_of rows) number key ≡ by_last number (find bin_cmp (key_text key) (entries rows))
+rejected_is : (rows : List Row) (number : ℕ) (key : RouteKey) → stays_rejected (routes_of rows) number key ≡ by_last number (first (last_of (key_text key)) rows)
 unfolding routes_of by_last
-rejected_is rows number key = ap (λ (o : Option ℕ). option_map_or (λ last. nat_le number last) o false) (get-from_entries nat_list_cmp_total (entries rows) (key_text key))
-
-any_covers : (rows : List Row) (r o : Row) → In o rows → covers r o ≡ true → list_any (covers r) rows ≡ true
-any_covers [] r o i e = absurd i
-any_covers (x ∷ rows) r o (inl same) e = ap (λ (t : Bool). t || list_any (covers r) rows) (ap (covers r) same ∙ e)
-any_covers (x ∷ rows) r o (inr i) e = or_true (covers r x) (list_any (covers r) rows) (any_covers rows r o i e)
+rejected_is rows number key =
+    ap (λ (o : Option ℕ). option_map_or (λ last. nat_le number last) o false) (get-from_entries nat_list_cmp_total (entries rows) (key_text key) ∙ found_first bin_cmp rejected_entry (key_text key) rows)
 
 third_false : (a b c : Bool) → a ≡ false → b ≡ false → (not a && (not b && c)) ≡ false → c ≡ false
 third_false true b c is_a is_b e = absurd cc
@@ -272,33 +202,32 @@ third_false false true c is_a is_b e = absurd cc
 third_false false false c is_a is_b e = e
 
 module _ (old_payers payers : ℕ) (old new : List Row) (no_old : first_fault old_payers old ≡ None) (no_new : first_fault payers new ≡ None) (stays : (r : Row) → In r old → In r new) (none : position_from (λ (row : Row). rejects_routed old row) 0 new ≡ None) where
-  old_one : (number : ℕ) (key : List ℕ) (last : ℕ) (x : Rejecting new key last) → In x.row old → by_last number (find bin_cmp key (entries old)) ≡ false → by_last number (Some last) ≡ false
+  old_one : (number : ℕ) (key : List ℕ) (last : ℕ) (x : Row) → In x old → last_of key x ≡ Some last → by_last number (first (last_of key) old) ≡ false → by_last number (Some last) ≡ false
   unfolding first_fault
-  old_one number key last x i unrejected =
-      let f = some_rejected old x.row key last i x.key_is x.last_is in
-      let y = rejecting_row old key f.value f.is in
-      let same : y.row ≡ x.row = one_row [] new y.row x.row key f.value last (all_keys payers [] new no_new) (stays y.row y.is_in) x.is_in y.key_is x.key_is y.last_is x.last_is in
-      let lasts : ◌≡◌ {A = Option ℕ} (Some f.value) (Some last) = sym y.last_is ∙ (ap (λ (z : Row). z.rejected) same ∙ x.last_is) in
-      ap (by_last number) (sym lasts) ∙ (ap (by_last number) (sym f.is) ∙ unrejected)
+  old_one number key last x i is unrejected =
+      let alone = one_last new key (untaken payers [] new no_new) in
+      ap (by_last number) (sym (first_is (last_of key) old x last (λ y z a b j k. alone y z a b (stays y j) (stays z k)) i is)) ∙ unrejected
 
-  new_one : (number : ℕ) (key : RouteKey) (last : ℕ) (x : Rejecting new (key_text key) last) → list_any (same_row x.row) old ≡ false → OfKey (leading old) key → by_last number (Some last) ≡ false
+  new_one : (number : ℕ) (key : RouteKey) (last : ℕ) (x : Row) → In x new → Rejecting (key_text key) x last → list_any (same_row x) old ≡ false → OfKey (leading old) key → by_last number (Some last) ≡ false
   unfolding first_fault
-  new_one number key last x is o =
+  new_one number key last x i s is o =
       let at = from_leading o.row old o.is_in in
-      let covered : covers x.row o.row ≡ true = covering x.row o.row key (texts_in payers [] new x.row no_new x.is_in) (texts_in old_payers [] old o.row no_old at.0) x.key_is at.1 o.bin_is o.pcn_is in
-      clash (by_last number (Some last) ≡ false) (list_any (covers x.row) old) (any_covers old x.row o.row at.0 covered)
-      (third_false (leads x.row) (list_any (same_row x.row) old) (list_any (covers x.row) old) (not_leading x.row last x.last_is) is (none_at (λ (row : Row). rejects_routed old row) 0 new x.row none x.is_in))
+      let covered : covers x o.row ≡ true = covering x o.row key (texts_in payers [] new x no_new i) (texts_in old_payers [] old o.row no_old at.0) s.key_is at.1 o.bin_is o.pcn_is in
+      absurd (both_ways (list_any (covers x) old)
+      (third_false (leads x) (list_any (same_row x) old) (list_any (covers x) old) (not_leading x last s.last_is) is (none_at (λ (row : Row). rejects_routed old row) 0 new x none i))
+      (any_true (covers x) old o.row at.0 covered))
 
-  either_one : (number : ℕ) (key : RouteKey) (last : ℕ) (x : Rejecting new (key_text key) last) (t : Bool) → list_any (same_row x.row) old ≡ t → OfKey (leading old) key → by_last number (find bin_cmp (key_text key) (entries old)) ≡ false → by_last number (Some last) ≡ false
-  either_one number key last x true is o unrejected = old_one number (key_text key) last x (among x.row old is) unrejected
-  either_one number key last x false is o unrejected = new_one number key last x is o
-
-  by_found : (number : ℕ) (key : RouteKey) (o : Option ℕ) → find bin_cmp (key_text key) (entries new) ≡ o → OfKey (leading old) key → by_last number (find bin_cmp (key_text key) (entries old)) ≡ false → by_last number o ≡ false
+  by_found : (number : ℕ) (key : RouteKey) (o : Option ℕ) → first (last_of (key_text key)) new ≡ o → OfKey (leading old) key → by_last number (first (last_of (key_text key)) old) ≡ false → by_last number o ≡ false
   unfolding by_last
   by_found number key None is of_key unrejected = refl
-  by_found number key (Some last) is of_key unrejected = let x = rejecting_row new (key_text key) last is in either_one number key last x (list_any (same_row x.row) old) refl of_key unrejected
+  by_found number key (Some last) is of_key unrejected =
+      let x = first_row (last_of (key_text key)) new last is in
+      elim (cases_Bool (list_any (same_row x.row) old)) [
+        | inl known ↦ old_one number (key_text key) last x.row (among x.row old known) x.is unrejected
+        | inr other ↦ new_one number key last x.row x.is_in (rejecting (key_text key) x.row last x.is) other of_key
+      ]
 
   -- what had a route does not stay rejected
   pub still_open : (number : ℕ) (key : RouteKey) → OfKey (leading old) key → stays_rejected (routes_of old) number key ≡ false → stays_rejected (routes_of new) number key ≡ false
   still_open number key of_key unrejected =
-      rejected_is new number key ∙ by_found number key (find bin_cmp (key_text key) (entries new)) refl of_key (sym (rejected_is old number key) ∙ unrejected)
+      rejected_is new number key ∙ by_found number key (first (last_of (key_text key)) new) refl of_key (sym (rejected_is old number key) ∙ unrejected)

@@ -56,10 +56,7 @@ fn first_route(
     if let Some(place) = first_range(pharmacies, old, new) {
         return Some(Ungrown::RangeTaken(place));
     }
-    match first_rejecting(old, new) {
-        Some(place) => Some(Ungrown::RouteRejected(place)),
-        None => None,
-    }
+    first_rejecting(old, new).map(Ungrown::RouteRejected)
 }
 
 /// The first node that has not grown.
@@ -72,8 +69,5 @@ fn first_node(old: &WorldSettings, new: &WorldSettings) -> Option<Ungrown>
     if let Some(number) = first_switch(old.switches.as_slice(), new.switches.as_slice()) {
         return Some(Ungrown::Switch(number));
     }
-    match first_payer(old.payers.as_slice(), new.payers.as_slice()) {
-        Some(number) => Some(Ungrown::Payer(number)),
-        None => None,
-    }
+    first_payer(old.payers.as_slice(), new.payers.as_slice()).map(Ungrown::Payer)
 }

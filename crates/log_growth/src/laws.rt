@@ -12,6 +12,7 @@ ghost use Rattle.log_growth.specs.Made.{WasMade, WasMadeWithRoutes};
 
 /// Of nodes the comparison is exact: it finds none that has not grown where each is there, as it was or with a larger cap,
 /// and nowhere else.
+#[tactic(auto, using(crate::proofs::NodesGrown::exact))]
 pub fn nodes_are_compared_exactly()
     ensures { (old new : WorldSettings) → (node_ungrown old new ≡ None) ↔ NodesGrow old new }
 {}

@@ -58,6 +58,7 @@ impl From<AllocError> for OverFault {
 ///
 /// # Errors
 /// `Log` where the bytes are a log of neither settings, else `Refused`.
+#[tactic(auto, using(settings_digest::proofs::Keeping::under_at))]
 pub fn go_over(
     alloc: Global,
     old: &Digests,
@@ -107,6 +108,7 @@ fn stay(alloc: Global, text: &[u8], node: Node, bytes: &[u8]) -> Result<Gone, Ov
 }
 
 /// A log that is one of other settings.
+#[tactic(auto, using(crate::proofs::Moved::second))]
 fn go(
     alloc: Global,
     old: &SettingsDigest,

@@ -1,7 +1,6 @@
 //! In what old settings and new ones differ, in words.
 
 use crate::ungrown::Ungrown;
-use payer_book::BookSettings;
 use pharmacy_journal::PharmacySettings;
 use plan_rules::Plan;
 use world_setup::{PayerSettings, WorldSettings};
@@ -62,7 +61,7 @@ fn payers(old: &WorldSettings, new: &WorldSettings, place: usize) -> &'static st
 
 /// What is said of a payer that is another.
 fn of_payer(old: &PayerSettings, new: &PayerSettings) -> &'static str {
-    if has_smaller_cap(old.book, new.book) {
+    if new.book.cap() < old.book.cap() {
         return "has a smaller cap";
     }
     if old.book.serial() != new.book.serial() {
@@ -75,11 +74,6 @@ fn of_payer(old: &PayerSettings, new: &PayerSettings) -> &'static str {
         return "has other answers";
     }
     of_plan(&old.plan, &new.plan)
-}
-
-/// Whether a book may have fewer rows.
-fn has_smaller_cap(old: BookSettings, new: BookSettings) -> bool {
-    new.cap() < old.cap()
 }
 
 /// What is said of a payer whose plan is another.

@@ -91,13 +91,7 @@ fn covers(row: &RouteRow, other: &RouteRow) -> bool
 fn is_for(pcn: Option<&[u8]>, other: Option<&[u8]>) -> bool
     ensures { result ≡ is_for (option_map (λ p. p.now) pcn.entry) (option_map (λ p. p.now) other.entry) }
 {
-    match other {
-        None => true,
-        Some(other) => match pcn {
-            None => false,
-            Some(pcn) => pcn == other,
-        },
-    }
+    other.is_none() || pcn == other
 }
 
 /// Whether one of these rows has the BIN number of a row.
@@ -167,43 +161,9 @@ fn takes_from_some(rows: &[RouteRow], row: &RouteRow) -> bool
 fn is_same(row: &RouteRow, other: &RouteRow) -> bool
     ensures { result ≡ same_row row.now other.now }
 {
-    (row.bin() == other.bin() && is_same_pcn(row.pcn(), other.pcn()))
-        && (are_same_ranges(&row.providers(), &other.providers())
+    (row.bin() == other.bin() && row.pcn() == other.pcn())
+        && (row.providers() == other.providers()
             && (row.payer() == other.payer() && row.rejected() == other.rejected()))
-}
-
-/// Whether two rows are for the same providers, or both for all.
-fn are_same_ranges(providers: &Option<Providers>, other: &Option<Providers>) -> bool
-    ensures { result ≡ same_ranges providers.now other.now }
-{
-    match providers {
-        None => other.is_none(),
-        Some(providers) => match other {
-            None => false,
-            Some(other) => is_same_range(providers, other),
-        },
-    }
-}
-
-/// Whether two ranges have the same providers.
-fn is_same_range(providers: &Providers, other: &Providers) -> bool
-    ensures { result ≡ same_range providers.now other.now }
-{
-    providers.qualifier == other.qualifier
-        && (providers.first == other.first && providers.last == other.last)
-}
-
-/// Whether two rows name the same processor control number, or both none.
-fn is_same_pcn(pcn: Option<&[u8]>, other: Option<&[u8]>) -> bool
-    ensures { result ≡ same_pcn (option_map (λ p. p.now) pcn.entry) (option_map (λ p. p.now) other.entry) }
-{
-    match pcn {
-        None => other.is_none(),
-        Some(pcn) => match other {
-            None => false,
-            Some(other) => pcn == other,
-        },
-    }
 }
 
 /// Whether a row of BIN and processor control number for all providers takes claims from one of the BIN alone, which leads to
