@@ -6,7 +6,7 @@ use Rattle.std.proofs.lemmas.List.{at_drop_more}
 use Rattle.std.proofs.lemmas.List.Elements.{filter_agree}
 use Rattle.std.proofs.lemmas.List.Folds.{list_any-append}
 use Rattle.std.proofs.lemmas.Slice.Eq.{bytes_eq-Decides}
-use Rattle.std.proofs.lemmas.Bool.{false≢true}
+use Rattle.std.proofs.lemmas.Bool.{and_parts}
 use Rattle.bin_routes.specs.Key.{RouteKey}
 use Rattle.rejected_rows.specs.Keys.{Request, same_key, is_among, with_key, keys_in}
 
@@ -32,31 +32,17 @@ twice : {A : Type 0} (p q : A → Bool) (xs : List A) → filter p (filter q xs)
 twice p q [] = refl
 twice p q (x ∷ xs) = twice_by p (q x) x (filter q xs) (filter (λ y. q y && p y) xs) (twice p q xs)
 
-same_bytes : (a b : List ℕ) → bytes_eq a b ≡ true → a ≡ b
-same_bytes a b = (bytes_eq-Decides a b).0
-
-both_true : (a b : Bool) → (a && b) ≡ true → (a ≡ true) × (b ≡ true)
-both_true true true e = (refl, refl)
-both_true true false e = absurd (false≢true e)
-both_true false b e = absurd (false≢true e)
-
-abbrev key_of : List ℕ → List ℕ → List ℕ → List ℕ → RouteKey
-key_of bin pcn qualifier provider = record { bin = bin; pcn = pcn; qualifier = qualifier; provider = provider }
-
 -- two keys are the same where their fields are
 is_same : (a b : RouteKey) → same_key a b ≡ true → a ≡ b
 is_same a b e =
-    let halves = both_true (bytes_eq a.bin b.bin && bytes_eq a.pcn b.pcn) (bytes_eq a.qualifier b.qualifier && bytes_eq a.provider b.provider) e in
-    let first = both_true (bytes_eq a.bin b.bin) (bytes_eq a.pcn b.pcn) halves.0 in
-    let second = both_true (bytes_eq a.qualifier b.qualifier) (bytes_eq a.provider b.provider) halves.1 in
-    ap (λ (x : List ℕ). key_of x a.pcn a.qualifier a.provider) (same_bytes a.bin b.bin first.0)
-    ∙ (ap (λ (x : List ℕ). key_of b.bin x a.qualifier a.provider) (same_bytes a.pcn b.pcn first.1)
-    ∙ (ap (λ (x : List ℕ). key_of b.bin b.pcn x a.provider) (same_bytes a.qualifier b.qualifier second.0)
-    ∙ ap (λ (x : List ℕ). key_of b.bin b.pcn b.qualifier x) (same_bytes a.provider b.provider second.1)))
-
--- where each that passes the first test passes the second, the second changes nothing
-passed : {A : Type 0} (p q : A → Bool) → ((x : A) → (q x && p x) ≡ p x) → (xs : List A) → filter p (filter q xs) ≡ filter p xs
-passed p q both xs = twice p q xs ∙ filter_agree (λ x. q x && p x) p both xs
+    let halves = and_parts (bytes_eq a.bin b.bin && bytes_eq a.pcn b.pcn) (bytes_eq a.qualifier b.qualifier && bytes_eq a.provider b.provider) e in
+    let first = and_parts (bytes_eq a.bin b.bin) (bytes_eq a.pcn b.pcn) halves.0 in
+    let second = and_parts (bytes_eq a.qualifier b.qualifier) (bytes_eq a.provider b.provider) halves.1 in
+    let bin : a.bin ≡ b.bin = (bytes_eq-Decides a.bin b.bin).0 first.0 in
+    let pcn : a.pcn ≡ b.pcn = (bytes_eq-Decides a.pcn b.pcn).0 first.1 in
+    let qualifier : a.qualifier ≡ b.qualifier = (bytes_eq-Decides a.qualifier b.qualifier).0 second.0 in
+    let provider : a.provider ≡ b.provider = (bytes_eq-Decides a.provider b.provider).0 second.1 in
+    λ i. record { bin = bin i; pcn = pcn i; qualifier = qualifier i; provider = provider i }
 
 -- a key is none of these and one more
 new_after : (keys : List RouteKey) (key other : RouteKey) → is_new (keys ++ key ∷ []) other ≡ (not (same_key key other) && is_new keys other)
@@ -97,7 +83,7 @@ pub once_more : (keys : List RouteKey) (key : RouteKey) (rest : List RouteKey) �
     → not_among keys rest ≡ not_among keys (key ∷ filter (λ other. not (same_key key other)) rest)
 once_more keys key rest old =
     left_out (is_among keys key) key (not_among keys rest) (not_among keys (filter (λ other. not (same_key key other)) rest)) old
-    (sym (passed (is_new keys) (λ other. not (same_key key other)) (λ other. apart keys key other old) rest))
+    (sym (twice (is_new keys) (λ other. not (same_key key other)) rest ∙ filter_agree (λ other. not (same_key key other) && is_new keys other) (is_new keys) (λ other. apart keys key other old) rest))
 
 -- the next key
 pub next_key : (keys : List RouteKey) (key : RouteKey) (rest : List RouteKey)

@@ -89,21 +89,21 @@ fn put_row(out: &mut Vec<u8>, key: &RouteKey, number: u64) -> Result<(), AllocEr
 }
 
 /// Appends a field without the spaces that fill it, after the name that it has in a row.
+#[tactic(auto, unfolding(crate::specs::Rows::field_text), using(crate::proofs::Joining::three_join))]
 fn put_field(out: &mut Vec<u8>, name: &[u8], field: &[u8]) -> Result<(), AllocError>
     ensures { OnOk result (out.new.items ≡ out.old.items ++ field_text name.now field.now) }
 {
     out.extend_from_slice(name)?;
     put_escaped(out, trimmed(field))?;
-    out.extend_from_slice(b"\"\n")?;
-    Ok(())
+    out.extend_from_slice(b"\"\n")
 }
 
 /// Appends the number of the last request that stays rejected.
+#[tactic(auto, unfolding(crate::specs::Rows::number_text), using(crate::proofs::Joining::three_join))]
 fn put_number(out: &mut Vec<u8>, number: u64) -> Result<(), AllocError>
     ensures { OnOk result (out.new.items ≡ out.old.items ++ number_text number) }
 {
     out.extend_from_slice(b"rejected = ")?;
     put_decimal(out, number)?;
-    out.extend_from_slice(b"\n")?;
-    Ok(())
+    out.extend_from_slice(b"\n")
 }
