@@ -4,9 +4,9 @@ ghost use Rattle.std.specs.Prelude.{◌≡◌, not};
 ghost use Rattle.std.specs.Option.{option_map};
 ghost use Rattle.std.specs.List.{list_any, position_from};
 ghost use Rattle.bin_routes.specs.Providers.{is_up_to};
-ghost use Rattle.bin_routes.specs.Row.{Row, same_pcn};
+ghost use Rattle.bin_routes.specs.Row.{Row};
 ghost use Rattle.bin_routes.specs.Table.{is_ranged};
-ghost use Rattle.log_growth.specs.Compared.{covers, has_bin, has_new_range, is_in_range, is_in_row, is_for, is_new_range, rejects_routed, same_range, same_ranges, same_row, takes_claims, takes_from, takes_range};
+ghost use Rattle.log_growth.specs.Compared.{covers, has_bin, has_new_range, is_in_range, is_in_row, is_for, is_new_range, rejects_routed, same_row, takes_claims, takes_from, takes_range};
 
 use bin_routes::{Providers, RouteRow};
 use pharmacy_journal::PharmacySettings;
