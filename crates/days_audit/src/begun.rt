@@ -42,6 +42,7 @@ impl Live {
 }
 
 /// All pharmacies.
+#[tactic(auto, using(crate::proofs::Begins::pharmacies_more))]
 fn begin_pharmacies(
     alloc: Global,
     settings: &CheckedSettings,
@@ -63,6 +64,7 @@ fn begin_pharmacies(
 }
 
 /// All payers.
+#[tactic(auto, using(crate::proofs::Begins::payers_more))]
 fn begin_payers(
     alloc: Global,
     settings: &CheckedSettings,
@@ -84,6 +86,7 @@ fn begin_payers(
 }
 
 /// A pharmacy.
+#[tactic(auto, using(crate::proofs::Begins::pharmacy_found))]
 fn begin_pharmacy(
     alloc: Global,
     settings: &CheckedSettings,
@@ -100,6 +103,7 @@ fn begin_pharmacy(
 }
 
 /// A payer.
+#[tactic(auto, using(crate::proofs::Begins::payer_found))]
 fn begin_payer(
     alloc: Global,
     settings: &CheckedSettings,
@@ -116,6 +120,7 @@ fn begin_payer(
 }
 
 /// A node.
+#[tactic(auto, using(crate::proofs::Begins::first_begun))]
 fn begin_node(
     alloc: Global,
     settings: &CheckedSettings,

@@ -76,6 +76,7 @@ fn found_days(
 }
 
 /// The same from these nodes, of logs of which none is of a node that another is of.
+#[tactic(auto, using(crate::proofs::Judging::agreed_order))]
 fn agreed_days(
     alloc: Global,
     routes: &Routes,

@@ -95,6 +95,7 @@ fn node_of<N>(nodes: &[N], number: u16) -> Option<&N>
 }
 
 /// The node of a number makes a call.
+#[tactic(auto, using(world_core::proofs::Calls::called_nobody))]
 fn ask_node<K: Kind>(
     nodes: &mut Vec<Powered<K>>,
     alloc: Global,

@@ -10,6 +10,7 @@ use node_log::{NodeLog, is_numbered};
 use world_setup::{Node, WorldSettings};
 
 /// The place of the first log of a node.
+#[tactic(auto, using(crate::proofs::Firsts::first_found, crate::proofs::Firsts::none_further, crate::proofs::Firsts::none_anywhere))]
 pub(crate) fn place_of(node: Node, logs: &[NodeLog]) -> Option<usize>
     ensures { FirstOf (node_seen node) (logs_seen logs.now) result }
 {

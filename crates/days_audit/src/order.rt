@@ -172,6 +172,7 @@ impl<'a> Order<'a> {
     }
 
     /// The first log whose next call is vouched for.
+    #[tactic(auto, using(crate::proofs::Placed::parts, crate::proofs::Placed::wait_next, crate::proofs::Placed::all_wait))]
     fn first_turn(&self, alloc: Global, routes: &Routes) -> Result<Option<usize>, AllocError>
         ensures { IfOk result (λ o. MatchOption o (AllWait (bytes_with routes.now) (order_seen self.now))
             (λ place. GoesAt (bytes_with routes.now) (order_seen self.now) place)) }
@@ -185,6 +186,7 @@ impl<'a> Order<'a> {
     }
 
     /// Places the next call of a log, which is vouched for. Where the node does not make it, the order is broken.
+    #[tactic(auto, using(crate::proofs::Placed::below, crate::proofs::Placed::placed_one))]
     fn place(&mut self, alloc: Global, routes: &Routes, place: usize) -> Result<bool, AllocError>
         requires { GoesAt (bytes_with routes.now) (order_seen self.old) place }
         ensures { IfOk result (λ yes. Steps (bytes_with routes.now) yes (order_seen self.old) (order_seen self.new)) }

@@ -1,10 +1,8 @@
-use Rattle.std.proofs.Common.{ap, sym, ◌∙◌}
-use Rattle.std.proofs.lemmas.Result.{IfOk-weaker}
+use Rattle.std.proofs.Common.{sym, ◌∙◌}
 use Rattle.world_setup.specs.Seen.{node_seen}
 use Rattle.node_log.specs.LogSeen.{logs_seen}
-use Rattle.kept_logs.specs.Rests.{begins}
 use Rattle.days_audit.specs.Begun.{begins_at}
-use Rattle.days_audit.proofs.Begins.{absent_not_begun, no_log_begun, first_begun}
+use Rattle.days_audit.proofs.Begins.{absent_not_begun, no_log_begun}
 use Rattle.days_audit.proofs.begun.begin_node.Goals as goal
 
 pub returns-then-not-is_there : goal.returns-then-not-is_there
@@ -12,9 +10,3 @@ returns-then-not-is_there c = absent_not_begun c.args.settings.now c.args.rests.
 
 pub returns-in-None : goal.returns-in-None
 returns-in-None c = no_log_begun (begins_at c.args.settings.now c.args.rests.now) (logs_seen c.args.logs.now) (node_seen c.args.node) (rw c.in-None.is at c.place_of.ensures)
-
-pub returns-in-Some : goal.returns-in-Some
-returns-in-Some c =
-    IfOk-weaker c.begin_with.result _ _
-    (λ begun h. first_begun (begins_at c.args.settings.now c.args.rests.now) (logs_seen c.args.logs.now) (node_seen c.args.node) c.in-Some.place (rw c.in-Some.is at c.place_of.ensures) begun (h ∙ ap (begins c.args.settings.now (node_seen c.args.node)) c.rest_at.ensures))
-    c.begin_with.ensures

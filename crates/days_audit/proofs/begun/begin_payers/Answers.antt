@@ -1,8 +1,7 @@
-use Rattle.std.proofs.Common.{rules, ◌<◌, subst, sym, length, ◌+◌}
+use Rattle.std.proofs.Common.{rules, ◌<◌, length}
 use Rattle.node_log.specs.LogSeen.{logs_seen}
 use Rattle.days_audit.specs.Begun.{begins_at}
-use Rattle.days_audit.specs.Lines.{ArePayers}
-use Rattle.days_audit.proofs.Begins.{payers_more, payer_not_begun}
+use Rattle.days_audit.proofs.Begins.{payer_not_begun}
 use Rattle.days_audit.proofs.begun.begin_payers.Goals as goal
 
 pub returns-in-None : goal.returns-in-None
@@ -10,8 +9,3 @@ returns-in-None c =
     let l : c.loop-passed.passed < length c.settings.result.now.payers.items = search rules in
     payer_not_begun (begins_at c.args.settings.now c.args.rests.now) (logs_seen c.args.logs.now) (length c.args.settings.now.pharmacies.items) (length c.args.settings.now.payers.items) c.loop-passed.passed
     (rw c.settings.ensures.kept at l) (rw c.in-None.is at c.in_ok-node.ensures)
-
-pub loop-passed-preserved : goal.loop-passed-preserved
-loop-passed-preserved c =
-    subst (ArePayers (begins_at c.args.settings.now c.args.rests.now) (logs_seen c.args.logs.now) (c.loop-passed.passed + 1)) (sym c.in_ok-push-in-Some.ensures.items)
-    (payers_more (begins_at c.args.settings.now c.args.rests.now) (logs_seen c.args.logs.now) c.loop-passed.passed c.loop-passed.nodes.items c.in-Some.node c.loop-passed.invariant (rw c.in-Some.is at c.in_ok-node.ensures))

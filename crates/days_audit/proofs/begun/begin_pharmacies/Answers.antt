@@ -1,8 +1,7 @@
-use Rattle.std.proofs.Common.{◌<◌, subst, sym, length, arith, ◌+◌}
+use Rattle.std.proofs.Common.{◌<◌, length, arith}
 use Rattle.node_log.specs.LogSeen.{logs_seen}
 use Rattle.days_audit.specs.Begun.{begins_at}
-use Rattle.days_audit.specs.Lines.{ArePharmacies}
-use Rattle.days_audit.proofs.Begins.{pharmacies_more, pharmacy_not_begun}
+use Rattle.days_audit.proofs.Begins.{pharmacy_not_begun}
 use Rattle.days_audit.proofs.begun.begin_pharmacies.Goals as goal
 
 pub returns-in-None : goal.returns-in-None
@@ -10,8 +9,3 @@ returns-in-None c =
     let l : c.loop-passed.passed < length c.settings.result.now.pharmacies.items = omega (arith, c.loop-passed-test.true, c.len-count.ensures, c.settings.result.now.pharmacies.ok.0) in
     pharmacy_not_begun (begins_at c.args.settings.now c.args.rests.now) (logs_seen c.args.logs.now) (length c.args.settings.now.pharmacies.items) (length c.args.settings.now.payers.items) c.loop-passed.passed
     (rw c.settings.ensures.kept at l) (rw c.in-None.is at c.in_ok-node.ensures)
-
-pub loop-passed-preserved : goal.loop-passed-preserved
-loop-passed-preserved c =
-    subst (ArePharmacies (begins_at c.args.settings.now c.args.rests.now) (logs_seen c.args.logs.now) (c.loop-passed.passed + 1)) (sym c.in_ok-push-in-Some.ensures.items)
-    (pharmacies_more (begins_at c.args.settings.now c.args.rests.now) (logs_seen c.args.logs.now) c.loop-passed.passed c.loop-passed.nodes.items c.in-Some.node c.loop-passed.invariant (rw c.in-Some.is at c.in_ok-node.ensures))

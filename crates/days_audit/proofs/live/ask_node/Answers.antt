@@ -1,15 +1,9 @@
-use Rattle.std.proofs.Common.{◌≡◌, ◌<◌, length, map, inl, inr, Some, slice_get, arith}
+use Rattle.std.proofs.Common.{◌≡◌, ◌<◌, length, map, Some, slice_get, arith}
 use Rattle.std.proofs.lemmas.Result.{IfOk-weaker, IfErr-weaker}
 use Rattle.world_setup.specs.Seen.{sent_seen, lent_seen}
 use Rattle.claim_model.specs.Refusal.{refusal_of}
-use Rattle.world_core.proofs.Calls.{node_at, called_done, called_refused, called_nobody}
+use Rattle.world_core.proofs.Calls.{node_at, called_done, called_refused}
 use Rattle.days_audit.proofs.live.ask_node.Goals as goal
-
-pub returns-in-None-clause-fault : goal.returns-in-None-clause-fault
-returns-in-None-clause-fault g c = called_nobody _ c.args.nodes.now.items c.args.number (elim c.in-None.ensures.nobody [
-  | inl e ↦ inl e
-  | inr h ↦ inr (omega (arith, h, c.len.ensures))
-])
 
 pub returns-in-Some-clause-ok : goal.returns-in-Some-clause-ok
 returns-in-Some-clause-ok g c =
