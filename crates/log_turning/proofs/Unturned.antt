@@ -190,9 +190,9 @@ same_document text a b one other = same_some (document_seen a) (document_seen b)
 not_refused : (text : List ℕ) (node : Node) (rest : List ℕ) (why : ServiceFault) → CanGoOn text node rest → why ≢ service_fault.OutOfMemory → IsRefused text node (Some rest) [] why → ⊥
 not_refused text node rest service_fault.OutOfMemory g some is = some refl
 not_refused text node rest service_fault.Settings g some (inl none) = let spelled = g.spells.spelled in absurd cc
-not_refused text node rest service_fault.Settings g some (inr w) =
+not_refused text node rest service_fault.Settings g some (inr (cause, w)) =
     let same = same_fault w.settings g.settings (same_document text w.settings g.settings w.spelled g.spells.spelled) in
-    let wrong : ◌≡◌ {A = Option WorldFault} (Some w.why) None = sym w.refused ∙ (same ∙ g.spells.taken) in absurd cc
+    let wrong : ◌≡◌ {A = Option WorldFault} (Some cause) None = sym w.refused ∙ (same ∙ g.spells.taken) in absurd cc
 not_refused text node rest service_fault.NoSuchNode g some is =
     let same = same_document text is.settings g.settings is.spells.spelled g.spells.spelled in
     let there : is_there (settings_seen g.settings) node ≡ true = begun_there (settings_seen g.settings) node (rest_in rest) g.begins_with g.goes_on in

@@ -5,12 +5,11 @@ use Rattle.std.specs.Option.{option_map}
 use Rattle.message_words.specs.declared.page.Style.{Style}
 use Rattle.message_words.specs.declared.page.Style.TheVariants.{Lines, Json}
 use Rattle.node_log.specs.LogSeen.{logs_seen}
-use Rattle.world_setup.specs.declared.world_fault.WorldFault.{WorldFault}
-use Rattle.world_settings.specs.Document.{living_in}
+use Rattle.world_settings.specs.Checked.{SpellsNone}
 use Rattle.log_audit.specs.Judged.{IsTold}
 use Rattle.log_audit.specs.Given.{IsRead, digest_of, opened, rests_seen}
 use Rattle.log_audit.specs.Names.{misnamed_log}
-use Rattle.log_audit.specs.Refused.{SpellsNoWorld, IsRefused}
+use Rattle.log_audit.specs.Refused.{IsRefused}
 use Rattle.log_audit.specs.Telling.{IsWritten}
 use Rattle.log_audit.specs.declared.fault.AuditFault.TheVariants.{Log, Reference}
 use Rattle.log_audit.specs.declared.fault.ReferenceFault.{ReferenceFault}
@@ -63,10 +62,6 @@ Reports told legal (Ok made) buffer after size = (legal ≡ true) × Stands told
 Reports told legal (Err why) buffer after size =
     ((why ≡ NoRun) × ((legal ≡ false) × Stands told buffer after size)) ⊎ ((why ≡ ShortBuffer) × Lacks told buffer after size)
 
--- the text spells no settings, or some that no world takes
-abbrev pub HasNoSettings : List ℕ → Type 0
-HasNoSettings text = (living_in text ≡ None) ⊎ ((why : WorldFault) × SpellsNoWorld text why)
-
 -- the settings are taken, and the piece at this place is the first that is no log under them
 pub record HasNoLog (text : List ℕ) (pieces : List (List ℕ)) (why : Refusal) (place : ℕ) : Type 0 where
   pub fault : LogFault
@@ -84,7 +79,7 @@ pub record HasBadReference (text : List ℕ) (pieces : List (List ℕ)) (why : R
 abbrev pub RefusesRead : List ℕ → List (List ℕ) → Refusal → ℕ → ℕ → Type 0
 RefusesRead text pieces why before place =
     ((why ≡ OutOfMemory) × (place ≡ before))
-    ⊎ (((why ≡ Settings) × ((place ≡ before) × HasNoSettings text)) ⊎ (HasBadReference text pieces why place ⊎ HasNoLog text pieces why place))
+    ⊎ (((why ≡ Settings) × ((place ≡ before) × SpellsNone text)) ⊎ (HasBadReference text pieces why place ⊎ HasNoLog text pieces why place))
 
 -- the same of bytes with the logs of these sizes
 pub record RefusesPieces (text bytes sizes : List ℕ) (why : Refusal) (before place : ℕ) : Type 0 where
