@@ -32,6 +32,7 @@ pub(crate) fn check_settings(alloc: Global, node: Node, text: &[u8]) -> Result<(
 }
 
 /// Whether the settings that a text spells, and that a world takes, have a node.
+#[tactic(auto, using(node_service::proofs::Refusals::no_settings))]
 fn has_node(alloc: Global, text: &[u8], node: Node) -> Result<bool, ServiceFault>
     ensures told { IfOk result (λ has. TellsOfNode text.now (node_seen node) has) }
     ensures refused { IfErr result (λ why. NoSettings text.now why) }
