@@ -19,6 +19,7 @@ use world_setup::{Event, Fault, Node, Packet};
 ///
 /// # Errors
 /// Where memory is refused. Some of the events may have been made then.
+#[tactic(auto, using(world_core::proofs::Runs::run_goes_on, world_core::proofs::Runs::run_is_done, crate::proofs::Making::events_go_on, crate::proofs::Making::events_are_told))]
 pub fn mark_run(alloc: Global, world: &mut World, events: &[Event]) -> Result<Vec<Mark>, AllocError>
     ensures marks { IfOk result (λ marks. map mark_seen marks.items
         ≡ marks_from (context_of world.old) world.old.world 1 (map event_seen events.now)) }

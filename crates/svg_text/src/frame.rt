@@ -20,6 +20,7 @@ pub struct Frame<'a> {
 }
 
 /// Appends what stands before the elements.
+#[tactic(auto, unfolding(crate::specs::Picture::head_text), using(crate::proofs::Joining::four_join))]
 pub(crate) fn put_head(out: &mut Vec<u8>, frame: &Frame<'_>) -> Result<(), AllocError>
     ensures { OnOk result (out.new.items ≡ out.old.items ++ head_text (framed frame.now)) }
 {

@@ -34,6 +34,7 @@ pub(crate) fn sized(name: Name, value: u64) -> Number
 }
 
 /// Appends the beginning of an element: its name, what says how it looks, and numbers.
+#[tactic(auto, unfolding(crate::specs::Numbers::start_text), using(crate::proofs::Joining::four_join))]
 pub(crate) fn put_start(
     out: &mut Vec<u8>,
     element: &[u8],
@@ -60,6 +61,7 @@ fn put_numbers(out: &mut Vec<u8>, numbers: &[Number]) -> Result<(), AllocError>
 }
 
 /// Appends a number as an attribute.
+#[tactic(auto, unfolding(crate::specs::Numbers::number_text), using(crate::proofs::Joining::three_join))]
 fn put_number(out: &mut Vec<u8>, number: Number) -> Result<(), AllocError>
     ensures { OnOk result (out.new.items ≡ out.old.items ++ number_text number) }
 {

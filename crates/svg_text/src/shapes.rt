@@ -25,6 +25,7 @@ pub struct Size {
 }
 
 /// Appends a line.
+#[tactic(auto, unfolding(crate::specs::Pieces::line_text), using(input_text::proofs::Joining::lists_join))]
 pub(crate) fn put_line(
     out: &mut Vec<u8>,
     stroke: Stroke,
@@ -45,6 +46,7 @@ pub(crate) fn put_line(
 }
 
 /// Appends a box.
+#[tactic(auto, unfolding(crate::specs::Pieces::box_text), using(input_text::proofs::Joining::lists_join))]
 pub(crate) fn put_box(
     out: &mut Vec<u8>,
     fill: Fill,
@@ -65,6 +67,7 @@ pub(crate) fn put_box(
 }
 
 /// Appends words.
+#[tactic(auto, unfolding(crate::specs::Pieces::words_text), using(crate::proofs::Joining::five_join))]
 pub(crate) fn put_words(
     out: &mut Vec<u8>,
     face: Face,
