@@ -27,6 +27,7 @@ fn are_digits(word: &[u8]) -> bool
 }
 
 /// The number that digits spell.
+#[tactic(auto, using(crate::proofs::Places::digit_at, crate::proofs::Places::below_more_places, crate::proofs::Places::few_places))]
 fn value_of(digits: &[u8]) -> u64
     requires digits { IsTrue (list_all is_digit digits.now) }
     requires few { length digits.now ≤ 18 }

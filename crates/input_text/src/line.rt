@@ -77,6 +77,7 @@ impl<'a> Iterator for Lines<'a> {
 }
 
 /// The first line of some bytes, and the bytes after its end.
+#[tactic(auto, using(std::proofs::lemmas::Slice::between_to_end, crate::proofs::Splitting::lines_at, crate::proofs::Splitting::lines_none))]
 fn first_line(bytes: &[u8]) -> (&[u8], &[u8])
     requires { 0 < length bytes.now }
     ensures split { lines bytes.now ≡ result.0.now ∷ lines result.1.now }
