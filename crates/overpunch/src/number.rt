@@ -58,6 +58,7 @@ pub fn write_number(number: u64, text: &mut [u8; 20]) -> usize
 }
 
 /// The number that the digits spell, or the place of the first byte that is no digit.
+#[tactic(auto, using(std::proofs::lemmas::List::take_all, crate::proofs::Texts::number_value_more, crate::proofs::Texts::digits_more, crate::proofs::Texts::digit_when, crate::proofs::Texts::other_at, crate::proofs::Texts::no_other))]
 pub(crate) fn spelled(text: &[u8]) -> Result<u64, usize>
     requires { length text.now ≤ 18 }
     ensures value { result ≡ spelled_number text.now }
