@@ -9,6 +9,7 @@ use jiff::civil::Date;
 
 /// Whether eight bytes, CCYYMMDD (401-D1), are digits that name a day of the Gregorian calendar,
 /// which is carried back to the year 0000.
+#[tactic(auto, unfolding(crate::specs::Date::is_calendar_date))]
 pub fn is_date(date: &[u8; 8]) -> bool
     ensures { result ≡ is_calendar_date date.now }
 {

@@ -7,6 +7,7 @@ ghost use Rattle.d0_header.specs.Response.{Response, IsResponse, response_text, 
 
 /// The text of a request header has 56 bytes, without a fault, and whatever follows it, its fields are cut
 /// from it again. Bytes without a fault begin with the text of the fields that are cut from them.
+#[tactic(auto, using(crate::proofs::RequestLemmas::length_is, crate::proofs::RequestLemmas::none_again, crate::proofs::RequestLemmas::same_again))]
 pub fn request_text_laws()
     ensures width { (h : Request) → IsRequest h → length (request_text h) ≡ 56 }
     ensures passes { (h : Request) (rest : List ℕ) → IsRequest h → request_fault (request_text h ++ rest) ≡ None }
@@ -17,6 +18,7 @@ pub fn request_text_laws()
 
 /// The text of a response header has 31 bytes, without a fault, and whatever follows it, its fields are cut
 /// from it again. Bytes without a fault begin with the text of the fields that are cut from them.
+#[tactic(auto, using(crate::proofs::ResponseLemmas::length_is, crate::proofs::ResponseLemmas::none_again, crate::proofs::ResponseLemmas::same_again))]
 pub fn response_text_laws()
     ensures width { (h : Response) → IsResponse h → length (response_text h) ≡ 31 }
     ensures passes { (h : Response) (rest : List ℕ) → IsResponse h → response_fault (response_text h ++ rest) ≡ None }

@@ -74,6 +74,7 @@ impl RequestHeader {
     }
 
     /// The 56 bytes of the header.
+    #[tactic(auto, unfolding(crate::specs::Request::request_text), using(std::proofs::lemmas::List::take_all, crate::proofs::Cutting::put_first, crate::proofs::Cutting::put_behind, crate::proofs::Cutting::nine_joined))]
     pub fn to_bytes(&self) -> [u8; 56]
         ensures value { result ≡ request_text self.now }
         ensures valid { IsRequest self.now }

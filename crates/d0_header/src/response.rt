@@ -90,6 +90,7 @@ impl ResponseHeader {
     }
 
     /// The 31 bytes of the header.
+    #[tactic(auto, unfolding(crate::specs::Response::response_text), using(std::proofs::lemmas::List::take_all, crate::proofs::Cutting::put_first, crate::proofs::Cutting::put_behind, crate::proofs::Cutting::seven_joined))]
     pub fn to_bytes(&self) -> [u8; 31]
         ensures value { result ≡ response_text self.now }
         ensures valid { IsResponse self.now }
