@@ -33,6 +33,7 @@ pub fn check_response(bytes: &[u8]) -> Result<Framed<'_, ResponseHeader>, Framin
 
 /// Tells whether all of the bytes are a transmission with a header of this kind.
 #[inline(always)]
+#[tactic(auto, using(crate::proofs::Whole::header_fails, crate::proofs::Faultless::inside_body, crate::proofs::Left::groups_counted))]
 fn check<H: Header>(bytes: &[u8]) -> Result<Framed<'_, H>, FramingFault>
     ensures parts { IfOk result (λ framed. transmission_of H.kind bytes.now ≡ Some (framed_parts framed)) }
     ensures fault { result_err result ≡ framing_fault H.kind bytes.now }

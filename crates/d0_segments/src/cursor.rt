@@ -62,6 +62,7 @@ impl<'a> Cursor<'a> {
 
     /// The next field of the segment and the place after it; None after the last one.
     #[inline(always)]
+    #[tactic(auto, using(crate::proofs::Faultless::no_field, crate::proofs::Left::no_fields))]
     pub fn field(self) -> Option<(Field<'a>, Cursor<'a>)>
         ensures fields { FindsField self.entry.bytes.now result }
         // The segments after are the same from both places.
@@ -77,6 +78,7 @@ impl<'a> Cursor<'a> {
 
     /// The field that begins here, and the place after it.
     #[inline(always)]
+    #[tactic(auto, using(crate::proofs::Faultless::field_start, crate::proofs::Faultless::behind_field))]
     fn take_field(self) -> (Field<'a>, Cursor<'a>)
         requires { begins_with 28 self.bytes.now ≡ true }
         ensures { self.entry.bytes.now ≡ field_text (field_parts result.0) ++ result.1.bytes.now }
@@ -90,6 +92,7 @@ impl<'a> Cursor<'a> {
 
     /// The next segment of the group; None after the last one.
     #[inline(always)]
+    #[tactic(auto, using(crate::proofs::Left::no_segments))]
     pub fn segment(self) -> Option<SegmentAt<'a>>
         ensures segments { FindsSegment self.entry.bytes.now result }
         ensures shorter { IfSome result (λ s. length s.fields.bytes.now < length self.entry.bytes.now) }
@@ -117,6 +120,7 @@ impl<'a> Cursor<'a> {
 
     /// The segment that begins here.
     #[inline(always)]
+    #[tactic(auto, using(crate::proofs::Faultless::segment_here, crate::proofs::Faultless::behind_name, crate::proofs::Left::segments_behind_name))]
     fn take_segment(self) -> SegmentAt<'a>
         requires { begins_with 30 self.bytes.now ≡ true }
         ensures segments { shared_of self.entry.bytes.now ≡ segment_at result ∷ shared_of result.fields.bytes.now }
@@ -133,6 +137,7 @@ impl<'a> Cursor<'a> {
     }
 
     /// The place where the segments of the next group begin; None after the last one.
+    #[tactic(auto, using(crate::proofs::Faultless::behind_group, crate::proofs::Left::groups_behind, crate::proofs::Left::no_groups))]
     pub fn group(self) -> Option<Cursor<'a>>
         ensures groups { FindsGroup self.entry.bytes.now result }
         ensures shorter { IfSome result (λ x. length x.bytes.now < length self.entry.bytes.now) }
@@ -146,6 +151,7 @@ impl<'a> Cursor<'a> {
 
 /// The place of the next group separator. Where no segments stand in front of the first group, it is the first byte.
 #[inline(always)]
+#[tactic(auto, using(crate::proofs::Left::first_here))]
 fn next_group(bytes: &[u8]) -> Option<usize>
     ensures { IsFirstByte (is_byte 29) bytes.now result }
 {

@@ -19,6 +19,7 @@ pub struct Field<'a> {
 
 impl<'a> Field<'a> {
     /// A field of these parts, where no separator stands in them.
+    #[tactic(auto, using(crate::proofs::Separating::is_id_plain, crate::proofs::Separating::plain_if_none, crate::proofs::Separating::first_in_front, crate::proofs::Separating::first_behind))]
     pub fn new(id: [u8; 2], value: &'a [u8]) -> Result<Field<'a>, FieldFault>
         ensures parts { IfOk result (λ field. (field.id ≡ id) × (field.value ≡ value.entry)) }
         ensures fault { result_err result ≡ option_map FieldFault.Separator (first_separator (id ++ value.now)) }

@@ -13,6 +13,7 @@ const LANES: usize = 16;
 
 /// How many bytes stand in front of the next separator or the end.
 #[inline(always)]
+#[tactic(auto, using(crate::proofs::Marks::near, crate::proofs::Marks::far, crate::proofs::Marks::within))]
 pub fn plain_length(bytes: &[u8]) -> usize
     ensures length { result ≡ plain_length bytes.now }
     ensures within { result ≤ length bytes.now }
@@ -29,6 +30,7 @@ pub fn plain_length(bytes: &[u8]) -> usize
 
 /// The lanes that are separators, a bit each.
 #[inline(always)]
+#[tactic(auto, using(crate::proofs::Marks::mask_is))]
 fn separators(lanes: u8x16) -> u64
     ensures { result ≡ mask_l (map is_separator lanes) }
 {
@@ -53,6 +55,7 @@ fn plain_length_of_few(bytes: &[u8]) -> usize
 /// The same for bytes whose next separator is not near. It is looked for near by once more, since an authorization has
 /// sixteen digits.
 #[inline(never)]
+#[tactic(auto, using(crate::proofs::Marks::from_place, crate::proofs::Marks::from_none))]
 fn plain_length_of_many(bytes: &[u8]) -> usize
     ensures { result ≡ plain_length bytes.now }
 {
@@ -67,6 +70,7 @@ fn plain_length_of_many(bytes: &[u8]) -> usize
 
 /// How many bytes stand in front of the next separator, where it is one of the next sixteen.
 #[inline(always)]
+#[tactic(auto, using(crate::proofs::Marks::near))]
 fn near_separator(bytes: &[u8]) -> Option<usize>
     ensures { IfSome result (λ place. place ≡ plain_length bytes.now) }
 {

@@ -33,6 +33,7 @@ pub fn response_laws()
 
 /// The fault that a search from left to right finds is the one with the least place of all rows of
 /// the fault table that stand anywhere in the text, and where it finds none, none stands.
+#[tactic(auto, using(crate::proofs::Leasts::none_stands))]
 pub fn first_fault_laws()
     ensures least { (front offset : ℕ) (text : List ℕ) (fault : FramingFault)
         → first_fault front offset text ≡ Some fault ↔ IsLeast front offset text fault }

@@ -12,6 +12,7 @@ use crate::rest::Rest;
 use crate::separator::{FIELD_SEPARATOR, SEGMENT_SEPARATOR};
 
 /// Counts the groups of a body that has no fault.
+#[tactic(auto, using(std::proofs::lemmas::Result::err_from_is_err_and, crate::proofs::Taken::behind_header))]
 pub fn count_groups(from: Rest<'_>) -> Result<usize, FramingFault>
     ensures count { IfOk result (λ found. found ≡ count_groups from.entry.bytes.now) }
     ensures faultless { IfOk result (λ _. fault_behind_header from.entry ≡ None) }
@@ -57,6 +58,7 @@ fn pass_field(from: Rest<'_>) -> Result<(usize, Rest<'_>), FramingFault>
 
 /// Passes a segment separator and the identification after it.
 #[inline(always)]
+#[tactic(auto, using(crate::proofs::Passed::passes_segment))]
 fn pass_segment_start(from: Rest<'_>) -> Result<(usize, Rest<'_>), FramingFault>
     requires { begins_with 30 from.bytes.now ≡ true }
     ensures passes { IfOk result (λ x. Passes from.entry x.0 x.1) }

@@ -73,6 +73,7 @@ pub fn read_response(
 type Body<'a> = (Vec<Segment<'a>>, Vec<Vec<Segment<'a>>>);
 
 /// Reads the transmission that all of the bytes spell.
+#[tactic(auto, using(crate::proofs::Typed::segments_typed, crate::proofs::Typed::groups_length, crate::proofs::Whole::header_fails, crate::proofs::Whole::IsRead, crate::proofs::Whole::differs, crate::proofs::Whole::mismatched, crate::proofs::Whole::spelled))]
 fn read<H: Header>(alloc: Global, bytes: &[u8]) -> Result<Transmission<'_, H>, FramingFault>
     ensures text { IfOk result (λ t. bytes.now ≡ transmission_text H.kind (transmission_parts t)) }
     ensures framed { IfOk result (λ t. IsFramed H.sound H.kind (transmission_parts t)) }
@@ -95,6 +96,7 @@ fn read<H: Header>(alloc: Global, bytes: &[u8]) -> Result<Transmission<'_, H>, F
 }
 
 /// Reads what stands after the header: the shared segments and the groups.
+#[tactic(auto, using(std::proofs::lemmas::Result::err_from_is_err_and, crate::proofs::Walking::ends_segment_of, crate::proofs::Taken::behind_header, crate::proofs::Taken::segments_carry, crate::proofs::Taken::fails_along))]
 fn read_body<'a>(alloc: Global, from: Rest<'a>) -> Result<Body<'a>, FramingFault>
     ensures parts { IfOk result
         (λ x. from.entry.bytes.now ≡ body_text (segments_parts x.0.items) (groups_parts x.1.items)) }
@@ -123,6 +125,7 @@ pub(crate) fn expect_start(rest: Rest<'_>) -> Result<(), FramingFault>
 }
 
 /// Reads groups up to the end.
+#[tactic(auto, using(std::proofs::lemmas::Result::err_from_is_err_and, crate::proofs::Taken::groups_carry, crate::proofs::Taken::fails_along))]
 fn read_groups<'a>(alloc: Global, from: Rest<'a>) -> Result<Vec<Vec<Segment<'a>>>, FramingFault>
     requires { ends_group from.bytes.now ≡ true }
     ensures parts { IfOk result (λ gs. from.entry.bytes.now ≡ groups_text (groups_parts gs.items)) }
@@ -172,6 +175,7 @@ pub(crate) fn enter_group<'a>(from: Rest<'a>) -> Result<Rest<'a>, FramingFault>
 }
 
 /// Reads segments as long as segment separators follow.
+#[tactic(auto, using(std::proofs::lemmas::Result::err_from_is_err_and, crate::proofs::Taken::segments_carry, crate::proofs::Taken::fails_along))]
 fn read_segments<'a>(
     alloc: Global,
     from: Rest<'a>,
@@ -193,6 +197,7 @@ fn read_segments<'a>(
 }
 
 /// Reads a segment: its separator, the field `AM` of exactly two bytes, and further fields.
+#[tactic(auto, using(std::proofs::lemmas::Result::err_from_is_err_and, crate::proofs::Taken::entered_segment, crate::proofs::Taken::fails_along))]
 fn read_segment<'a>(alloc: Global, from: Rest<'a>) -> Result<(Segment<'a>, Rest<'a>), FramingFault>
     requires { begins_with 30 from.bytes.now ≡ true }
     ensures taken { IfOk result (λ x. Takes from.entry (segment_text (segment_parts x.0)) x.1) }
@@ -207,6 +212,7 @@ fn read_segment<'a>(alloc: Global, from: Rest<'a>) -> Result<(Segment<'a>, Rest<
 
 /// Passes a segment separator and the field `AM` after it, whose two bytes it answers.
 #[inline(always)]
+#[tactic(auto, using(crate::proofs::Taken::named, crate::proofs::Taken::unnamed))]
 pub(crate) fn enter_segment<'a>(from: Rest<'a>) -> Result<(u8, u8, Rest<'a>), FramingFault>
     requires { begins_with 30 from.bytes.now ≡ true }
     ensures taken { IfOk result (λ x. Takes from.entry (30 ∷ 28 ∷ 65 ∷ 77 ∷ x.0 ∷ x.1 ∷ []) x.2) }
@@ -238,6 +244,7 @@ fn is_identified(bytes: &[u8]) -> bool
 const FIELDS: usize = 8;
 
 /// Reads fields as long as field separators follow.
+#[tactic(auto, using(std::proofs::lemmas::Result::err_from_is_err_and, crate::proofs::Taken::fields_carry, crate::proofs::Taken::fails_of))]
 fn read_fields<'a>(
     alloc: Global,
     from: Rest<'a>,

@@ -55,6 +55,7 @@ pub fn separator_in(bytes: &[u8]) -> Option<usize>
 
 /// The bytes in front of the next separator or the end, and those from there on.
 #[inline(always)]
+#[tactic(auto, using(crate::proofs::Marks::plain_front, crate::proofs::Marks::ends_back))]
 pub fn split(bytes: &[u8]) -> (&[u8], &[u8])
     ensures plain { is_plain result.0.now ≡ true }
     ensures ends { ends_here result.1.now ≡ true }

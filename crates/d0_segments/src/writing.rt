@@ -14,6 +14,7 @@ use crate::transmission::Transmission;
 use std::alloc::{AllocError, Global};
 
 /// The text of a transmission: its header, its shared segments and its groups, in order.
+#[tactic(auto, using(crate::proofs::Typed::segments_typed, crate::proofs::Typed::groups_length))]
 pub fn write<H: Header>(
     alloc: Global,
     transmission: &Transmission<'_, H>,

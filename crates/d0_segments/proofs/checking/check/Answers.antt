@@ -1,14 +1,9 @@
 use Rattle.std.proofs.Common.{◌≡◌, ◌∙◌, ◌-◌, eqb, true, false, ap, sym, length, arith, length-drop}
 use Rattle.std.proofs.lemmas.Bool.{eq-eqb}
 use Rattle.std.proofs.lemmas.Result.{err_from_is_err_and}
-use Rattle.d0_segments.proofs.Whole.{header_fails, differs}
-use Rattle.d0_segments.proofs.Faultless.{inside_body}
-use Rattle.d0_segments.proofs.Left.{groups_counted}
+use Rattle.d0_segments.proofs.Whole.{differs}
 use Rattle.d0_segments.proofs.Passed.{body_told, count_told, differ, agree, spelled_by}
 use Rattle.d0_segments.proofs.checking.check.Goals as goal
-
-pub returns-in-Err-clause-fault : goal.returns-in-Err-clause-fault
-returns-in-Err-clause-fault g c = sym (header_fails g.H.Header.kind c.args.bytes.now c.in-Err.fault (sym c.in-Err.ensures.fault))
 
 pub returns-in_err-found-clause-fault : goal.returns-in_err-found-clause-fault
 returns-in_err-found-clause-fault g c =
@@ -30,15 +25,6 @@ returns-then-found-said-clause-fault g c =
     let differ_so : eqb (kind.said header) found ≡ false = differs (kind.said header) found (λ same. omega (arith, c.announced-said.ensures, c.if-found-said.true)) in
     rw c.announced-said.ensures (sym (count_told kind bytes body.now (length bytes - length body.now) (sym c.in-Ok.ensures.fault) c.in-Ok.ensures.behind place header found c.in-Ok.ensures.header c.in_ok-found.ensures.faultless c.in_ok-found.ensures.count
     ∙ differ (kind.said header) found differ_so))
-
-pub at-requires : goal.at-requires
-at-requires g c =
-    let body = c.in-Ok.front.1 in
-    inside_body (length c.args.bytes.now - length body.now) body.now c.in_ok-found.ensures.starts c.in_ok-found.ensures.faultless
-
-pub new-requires : goal.new-requires
-new-requires g c =
-    rw c.at.ensures (omega (arith, c.if-found-said.false, c.announced-said.ensures, c.in_ok-found.ensures.count, groups_counted c.in-Ok.front.1.now))
 
 pub returns-clause-fault : goal.returns-clause-fault
 returns-clause-fault g c =

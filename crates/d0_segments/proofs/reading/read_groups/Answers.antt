@@ -1,13 +1,6 @@
 use Rattle.std.proofs.Common.{◌≡◌, ◌∷◌, ◌++◌, []}
-use Rattle.std.proofs.lemmas.Result.{err_from_is_err_and}
-use Rattle.d0_segments.specs.Taking.{fault_in}
-use Rattle.d0_segments.proofs.Taken.{groups_taken, groups_lie, groups_carry, are_groups_more, fails_along}
+use Rattle.d0_segments.proofs.Taken.{groups_taken, groups_lie, are_groups_more}
 use Rattle.d0_segments.proofs.reading.read_groups.Goals as goal
-
-pub returns-in_err-segments-clause-fault : goal.returns-in_err-segments-clause-fault
-returns-in_err-segments-clause-fault c =
-    let p = err_from_is_err_and c.from_residual.result c.from_residual.ensures.1 in
-    rw (p.1, p.2) (fails_along c.in_err-segments.field-0.0 (fault_in c.args.from) (fault_in c.loop-rest.rest) (groups_carry c.args.from c.loop-rest.rest c.loop-rest.groups.items c.loop-rest.invariant.taken c.loop-rest.invariant.groups c.loop-rest.invariant.ends) c.in_err-segments.ensures.fault)
 
 pub loop-rest-preserved : goal.loop-rest-preserved
 loop-rest-preserved c =

@@ -1,10 +1,10 @@
-use Rattle.std.proofs.Common.{◌≡◌, true, false, sym, ap, ◌∙◌}
+use Rattle.std.proofs.Common.{ap, ◌∙◌}
 use Rattle.d0_segments.specs.Views.{field_parts}
 use Rattle.d0_segments.specs.Pieces.{shared_of}
 use Rattle.d0_segments.specs.Inside.{fields_left}
 use Rattle.d0_segments.proofs.Typed.{field_typed}
-use Rattle.d0_segments.proofs.Faultless.{inside_facts, no_field}
-use Rattle.d0_segments.proofs.Left.{fields_behind, segments_behind_field, no_fields}
+use Rattle.d0_segments.proofs.Faultless.{inside_facts}
+use Rattle.d0_segments.proofs.Left.{fields_behind, segments_behind_field}
 use Rattle.d0_segments.proofs.cursor.Cursor.field.Goals as goal
 
 pub returns-then-begins_with-clause-fields : goal.returns-then-begins_with-clause-fields
@@ -18,10 +18,3 @@ returns-then-begins_with-clause-segments c =
     let f = c.take_field.result.0 in
     let rest = c.take_field.result.1 in
     ap shared_of c.take_field.ensures ∙ segments_behind_field (field_parts f) rest.bytes.now (field_typed f)
-
-pub returns-clause-fields : goal.returns-clause-fields
-returns-clause-fields c =
-    no_fields c.args.self.bytes.now (no_field c.args.self.bytes.now c.args.self.framed (λ t. let h : true ≡ false = sym t ∙ sym c.begins_with.ensures ∙ c.if-begins_with.false in cc))
-
-pub returns-clause-ends : goal.returns-clause-ends
-returns-clause-ends c = no_field c.args.self.bytes.now c.args.self.framed (λ t. let h : true ≡ false = sym t ∙ sym c.begins_with.ensures ∙ c.if-begins_with.false in cc)
