@@ -8,6 +8,7 @@ ghost use Rattle.bin_routes.specs.Fault.{first_fault};
 ghost use Rattle.bin_routes.specs.Table.{RouteMaps, routes_of, among, payer_at, payer_of, payer_under, IsForOthers};
 
 /// Where rows have no fault, each payer that they route to is one of the payers.
+#[tactic(auto, using(crate::proofs::Payers::routed_payer))]
 pub fn route_laws()
     ensures { (payers : ℕ) (rows : List Row) (bin pcn : List ℕ) → first_fault payers rows ≡ None
         → IfSome (payer_at (routes_of rows) bin pcn) (λ payer. (1 ≤ payer) × (payer ≤ payers)) }
@@ -15,6 +16,7 @@ pub fn route_laws()
 
 /// A request has the payer of its fields or none: those of one key that have one have the same, whatever their numbers are.
 /// Where no row says what stays rejected each has it. How many switches there are says nothing of it.
+#[tactic(auto, using(crate::proofs::Payers::number_led, crate::proofs::Payers::number_without, crate::proofs::Payers::number_among))]
 pub fn number_laws()
     ensures led { (maps : RouteMaps) (number : ℕ) (key : RouteKey) (payer : ℕ)
         → payer_under maps number key ≡ Some payer → payer_of maps key ≡ Some payer }
@@ -27,6 +29,7 @@ pub fn number_laws()
 /// Where rows have no fault, each payer that they route a header to is one of the payers. Where no row is for some providers
 /// alone it is the payer of the BIN number and the processor control number. And such rows after the others change the payer of
 /// no provider but their own.
+#[tactic(auto, using(crate::proofs::Payers::ranged_within, crate::proofs::Payers::ranged_without, crate::proofs::Payers::ranged_added))]
 pub fn range_laws()
     ensures within { (payers : ℕ) (rows : List Row) (key : RouteKey) → first_fault payers rows ≡ None
         → IfSome (payer_of (routes_of rows) key) (λ payer. (1 ≤ payer) × (payer ≤ payers)) }

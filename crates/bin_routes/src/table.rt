@@ -42,6 +42,7 @@ impl Routes {
     /// The table of these rows, for payers numbered from 1 to `payers`. The first bad row decides, and in it the
     /// first of [`RoutesFault::BadBin`], [`RoutesFault::BadPcn`], [`RoutesFault::NoSuchPayer`] and
     /// [`RoutesFault::SameRow`]. Each row costs the logarithm of their number.
+    #[tactic(auto, unfolding(crate::specs::Fault::first_fault), using(std::proofs::lemmas::Result::err_from_is_err_and, crate::proofs::Rows::stops))]
     pub fn new(alloc: Global, rows: &[RouteRow], payers: u16) -> Result<Routes, RoutesFault>
         ensures made { IfOk result (λ routes. (routes ≡ routes_of rows.now) × (first_fault payers rows.now ≡ None)) }
         ensures fault { IfErr result (λ fault. (fault ≡ OutOfMemory) ⊎ (first_fault payers rows.now ≡ Some fault)) }
@@ -114,6 +115,7 @@ impl Routes {
     }
 
     /// The last number of these fields that stays rejected.
+    #[tactic(auto, using(crate::proofs::Maps::get_is, crate::proofs::Maps::bins_total))]
     fn last_rejected(&self, key: &RouteKey) -> Option<u64>
         ensures { result ≡ get self.now.rejected (key_text key.now) }
     {
@@ -138,6 +140,7 @@ impl Routes {
     }
 
     /// The payer of the row of a BIN number and processor control number for all providers.
+    #[tactic(auto, using(crate::proofs::Maps::get_is, crate::proofs::Maps::processors_total))]
     fn exact_payer(&self, bin: &[u8; 6], pcn: &[u8; 10]) -> Option<PayerNo>
         ensures { result ≡ get self.now.exact (bin.now, pcn.now) }
     {
@@ -145,6 +148,7 @@ impl Routes {
     }
 
     /// The payer of the row of a BIN number for all.
+    #[tactic(auto, using(crate::proofs::Maps::get_is, crate::proofs::Maps::bins_total))]
     fn other_payer(&self, bin: &[u8; 6]) -> Option<PayerNo>
         ensures { result ≡ get self.now.others bin.now }
     {
@@ -152,6 +156,7 @@ impl Routes {
     }
 
     /// The table of no rows.
+    #[tactic(auto, unfolding(crate::specs::Table::routes_of))]
     fn empty(alloc: Global) -> Routes
         ensures { result ≡ routes_of [] }
     {
@@ -211,6 +216,7 @@ impl Routes {
     }
 
     /// Whether requests of a key stay rejected.
+    #[tactic(auto, using(crate::proofs::Maps::get_is, crate::proofs::Maps::bins_total))]
     fn has_rejected(&self, text: &KeyText) -> bool
         ensures { result ≡ contains_key self.now.rejected text.now }
     {
@@ -218,6 +224,7 @@ impl Routes {
     }
 
     /// Lets the requests of a key up to the last stay rejected.
+    #[tactic(auto, using(crate::proofs::Maps::inserted, crate::proofs::Maps::bins_total, crate::proofs::Maps::exact_bins))]
     fn put_rejected(&mut self, text: KeyText, last: u64) -> Result<(), RoutesFault>
         ensures ok { OnOk result (self.new ≡ with_rejected self.old text last) }
         ensures fault { IfErr result (λ fault. fault ≡ OutOfMemory) }
@@ -237,6 +244,7 @@ impl Routes {
     }
 
     /// Whether there is one for the same and all providers.
+    #[tactic(auto, using(crate::proofs::Maps::get_is, crate::proofs::Maps::bins_total))]
     fn has_for_all(&self, route: &Route) -> bool
         ensures { result ≡ has_for_all self.now route.now }
     {
