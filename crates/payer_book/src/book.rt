@@ -244,6 +244,7 @@ impl Book {
     }
 
     /// The payment of that authorization.
+    #[tactic(auto, using(crate::proofs::Told::payment_told))]
     pub fn payment(&self, auth: Auth) -> Option<PaymentView>
         ensures { (routes : RouteMaps) → result ≡ payment_in (bytes_with routes) self.now auth }
     {

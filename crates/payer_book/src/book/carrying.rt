@@ -13,6 +13,7 @@ use std::alloc::{AllocError, Global};
 
 /// Writes the answer to a request into a text, in the place of what it has, with what there is of an advice beside the
 /// rulings, and tells whether that is anything.
+#[tactic(auto, using(crate::proofs::Carried::kept_nothing, crate::proofs::Carried::kept_other, crate::proofs::Carried::no_bytes))]
 pub(crate) fn write_into(
     text: &mut Vec<u8>,
     alloc: Global,

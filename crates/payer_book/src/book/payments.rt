@@ -85,6 +85,7 @@ impl Payments {
     }
 
     /// The place of the payment of that authorization.
+    #[tactic(auto, using(crate::proofs::Numbering::payment_at, crate::proofs::Numbering::no_payment))]
     pub(crate) fn place_of(&self, auth: Auth) -> Option<usize>
         ensures { IsPlaceOf auth self.now.payments result }
     {
@@ -125,6 +126,7 @@ impl Payments {
     }
 
     /// The standing payments that the reversal is for, those left out that the changes reverse.
+    #[tactic(auto, using(crate::proofs::Matching::matches_one, crate::proofs::Matching::matches_any))]
     pub(crate) fn matching(&self, reversal: &Reversal, changes: &[Change]) -> Matches
         ensures { result ≡ tally (filter (is_match reversal.now changes.now) (standing_in self.now.payments)) }
     {
@@ -138,6 +140,7 @@ impl Payments {
     }
 
     /// Those whose fill number is `first` or more, and below `end`.
+    #[tactic(auto, using(crate::proofs::Matching::none_between, crate::proofs::Matching::matches_more))]
     fn matching_from(
         &self,
         reversal: &Reversal,

@@ -27,6 +27,7 @@ pub(crate) struct PlaceMap<K: Eq + Hash + Copy + Drop> {
 
 impl<K: Eq + Hash + Copy + Drop> PlaceMap<K> {
     /// No keys, with memory from `alloc`, hashed from this start. It takes none of it.
+    #[tactic(auto, using(crate::proofs::PlaceLemmas::none_without))]
     pub(crate) fn new(alloc: Global, start: HashStart) -> PlaceMap<K>
         ensures { (k : K) → place_in K.eq K.hash_input result k ≡ None }
     {
@@ -104,6 +105,7 @@ impl<K: Eq + Hash + Copy + Drop> PlaceMap<K> {
     }
 
     /// Adds a key that is not there to the first map.
+    #[tactic(auto, using(crate::proofs::Lists::ok_holds, crate::proofs::PlaceLemmas::first_keyed))]
     fn insert_first(&mut self, key: K, place: usize)
         requires room { 1 ≤ room_in self.old }
         requires none { place_in K.eq K.hash_input self.old key ≡ None }
@@ -114,6 +116,7 @@ impl<K: Eq + Hash + Copy + Drop> PlaceMap<K> {
     }
 
     /// Adds a key to its own map. Where memory is refused, or there is no such map, nothing changes and it answers false.
+    #[tactic(auto, using(crate::proofs::PlaceLemmas::apart_keyed))]
     fn insert_apart(&mut self, key: K, place: usize) -> bool
         ensures done { result ≡ true → Keyed K.eq K.hash_input key place self.old self.new }
         ensures same { result ≡ false → SamePlaces K.eq K.hash_input self.old self.new }
@@ -137,6 +140,7 @@ impl<K: Eq + Hash + Copy + Drop> PlaceMap<K> {
     }
 
     /// Takes a key out.
+    #[tactic(auto, using(crate::proofs::PlaceLemmas::unkeyed, crate::proofs::PlaceLemmas::out_of_none))]
     pub(crate) fn remove(&mut self, key: &K)
         ensures less { Unkeyed K.eq K.hash_input key.now self.old self.new }
         ensures room { room_in self.old ≤ room_in self.new }
@@ -170,6 +174,7 @@ fn found_at<K: Eq + Hash + Copy + Drop>(
 }
 
 /// Puts a key into the map of a number; where memory is refused nothing is changed, and the result is false.
+#[tactic(auto, using(crate::proofs::Lists::ok_holds, crate::proofs::PlaceLemmas::found_same, crate::proofs::PlaceLemmas::puts, crate::proofs::PlaceLemmas::same_at, crate::proofs::PlaceLemmas::err_holds))]
 fn put<K: Eq + Hash + Copy + Drop>(
     shards: &mut Vec<HashMap<K, usize, HashStart>>,
     number: usize,
@@ -184,6 +189,7 @@ fn put<K: Eq + Hash + Copy + Drop>(
 }
 
 /// Takes a key out of the map of a number.
+#[tactic(auto, using(crate::proofs::PlaceLemmas::puts))]
 fn take<K: Eq + Hash + Copy + Drop>(
     shards: &mut Vec<HashMap<K, usize, HashStart>>,
     number: usize,
@@ -196,6 +202,7 @@ fn take<K: Eq + Hash + Copy + Drop>(
 }
 
 /// The maps beside the first, without a key.
+#[tactic(auto, using(crate::proofs::PlaceLemmas::empty_more))]
 fn empty_shards<K: Eq + Hash + Copy + Drop>(
     alloc: Global,
     start: HashStart,

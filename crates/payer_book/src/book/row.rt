@@ -112,6 +112,7 @@ impl Row {
     }
 
     /// The answer's bytes: header status `A` (501-F1), one group for each ruling, and what the answer carries.
+    #[tactic(auto, using(crate::proofs::Readings::kept_text))]
     pub fn answer(&self) -> &[u8]
         ensures kept { IsAnswered self.now.request self.now.rulings self.now.carried result.now }
         ensures short { length result.now ≤ longest_payload }

@@ -70,6 +70,7 @@ impl Rows {
     }
 
     /// The place of the row of an id.
+    #[tactic(auto, using(crate::proofs::RowIndex::place_found))]
     pub(crate) fn place_of(&self, id: TxnId) -> Option<usize>
         ensures { IsPlaceOf id self.now result }
     {
@@ -103,6 +104,7 @@ impl Rows {
     }
 
     /// Adds a row at the end.
+    #[tactic(auto, using(crate::proofs::RowIndex::placed_by, crate::proofs::RowIndex::placed_more, crate::proofs::RowIndex::placed_same, crate::proofs::RowIndex::unplaced))]
     pub(crate) fn push(&mut self, row: Row) -> Result<(), AllocError>
         requires { row_of row.id self.old ≡ None }
         ensures ok { OnOk result (self.new ≡ self.old ++ row ∷ []) }

@@ -93,6 +93,7 @@ fn same_claim(a: &Claim, b: &Claim) -> bool
 }
 
 /// The standing payment of a fill, in the book or made by a place before.
+#[tactic(auto, using(crate::proofs::Overlay::none_after))]
 fn standing_for<'a>(
     payments: &'a Payments,
     changes: &'a [Change],
@@ -113,6 +114,7 @@ fn standing_for<'a>(
 }
 
 /// The authorization of the only standing payment that a reversal is for, in the book or made by a place before.
+#[tactic(auto, using(crate::proofs::Overlay::only_after))]
 fn auth_to_reverse(payments: &Payments, changes: &[Change], reversal: &Reversal) -> Option<Auth>
     ensures { result ≡ option_map (λ s. s.auth)
         (only (filter (is_for_payment reversal.now) (still_standing payments.now changes.now))) }

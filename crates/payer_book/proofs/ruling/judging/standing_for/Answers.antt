@@ -2,7 +2,7 @@ use Rattle.std.proofs.Common.{sym, ap, ◌∙◌}
 use Rattle.claim_model.specs.Words.{Auth}
 use Rattle.payer_book.specs.Ledger.{standing_in}
 use Rattle.payer_book.specs.Changes.{is_reversed}
-use Rattle.payer_book.proofs.Overlay.{stands_after, reversed_after, none_after}
+use Rattle.payer_book.proofs.Overlay.{stands_after, reversed_after}
 use Rattle.payer_book.proofs.ruling.judging.standing_for.Goals as goal
 
 pub returns-then-is_reversed : goal.returns-then-is_reversed
@@ -18,6 +18,3 @@ returns-else-is_reversed c =
     let changes = c.args.changes.now in
     let k = ap (λ (a : Auth). is_reversed a changes) (sym c.auth.ensures) ∙ (sym c.is_reversed.ensures ∙ c.if-is_reversed.false) in
     sym (stands_after c.args.fill.now ss changes c.in-Some.payment.now (sym c.in-Some.ensures.value) k)
-
-pub returns-in-None : goal.returns-in-None
-returns-in-None c = c.left_for-in-None.ensures ∙ sym (none_after c.args.fill.now (standing_in c.args.payments.now.payments) c.args.changes.now (sym c.in-None.ensures.value))

@@ -6,9 +6,6 @@ use Rattle.payer_book.proofs.Numbering.{numbered}
 use Rattle.payer_book.proofs.PaymentIndex.{index_none, more_by, indexed_more}
 use Rattle.payer_book.proofs.book.payments.Payments.push.Goals as goal
 
-pub insert-requires-clause-room : goal.insert-requires-clause-room
-insert-requires-clause-room c = let room = subst (λ (l : Ledger). 1 ≤ l.room) (sym c.self.view_is) c.requires.room in omega (arith, room)
-
 pub insert-requires-clause-none : goal.insert-requires-clause-none
 insert-requires-clause-none c =
     let none = subst (λ (l : Ledger). standing_of c.args.payment.claim.fill (standing_in l.payments) ≡ None) (sym c.self.view_is) c.requires.none in
