@@ -1,27 +1,23 @@
--- Candidates over streams, deed by deed.
-use Rattle.std.proofs.Common.{◌≡◌, ℕ, zero, suc, ◌+◌, ◌≤◌, Bool, true, false, cond, List, [], ◌∷◌, ◌++◌, map, take, drop, length, Option, Some, None, refl, sym, ap, ◌∙◌, subst, ◌⊎◌, inl, inr, append_assoc, arith}
-use Rattle.std.specs.Prelude.{nat_eq, option_map, flat_map}
+-- Candidates over streams: what one of them does by itself keeps them fenced.
+use Rattle.std.proofs.Common.{◌≡◌, ℕ, zero, suc, ◌+◌, ◌≤◌, Bool, true, false, cond, List, [], ◌∷◌, ◌++◌, take, length, Option, Some, None, refl, sym, ap, ◌∙◌, subst, ◌⊎◌, inl, inr, append_assoc, arith}
+use Rattle.std.specs.Prelude.{nat_eq, option_map}
 use Rattle.std.specs.List.{AllByRecursion}
-use Rattle.std.proofs.lemmas.List.{append-nil, take-append-drop, take-append-le, map-append, length-append}
-use Rattle.std.proofs.lemmas.Grind.{flat_map-append}
+use Rattle.std.proofs.lemmas.List.{append-nil}
 use Rattle.claim_model.specs.Context.{Context}
 use Rattle.claim_model.specs.Numbered.{numbered}
 use Rattle.claim_model.specs.Node.{Node, Call, Outcome, Done, Refused}
-use Rattle.claim_model.specs.World.{Packet, Event, packet_from}
+use Rattle.claim_model.specs.World.{Packet, Event}
 use Rattle.claim_model.specs.Settings.{WorldSettings, opening}
 use Rattle.claim_model.specs.Nodes.{AnyNode, node_step, node_at, Asked, asked}
-use Rattle.claim_model.specs.Logs.{Logged, node_after, replay, Makes, posted_by}
+use Rattle.claim_model.specs.Logs.{Logged, node_after, replay, Makes}
 use Rattle.claim_model.proofs.Lists.{numbered_append, numbered_last, numbered_more, numbered_map, numbered_within, all_at, all_append, all_weaker}
 use Rattle.claim_model.proofs.Options.{same_some}
 use Rattle.claim_model.proofs.Names.{told_apart}
-use Rattle.claim_model.proofs.Serving.{asks_still}
-use Rattle.crash_safety.specs.Network.{Process, Network, Move, Saying, file, replayed, saying, beginning, moved, after, network}
-use Rattle.crash_safety.specs.Fenced.{Request, Entry, Candidate, Fenced, Deed, Joining, Asking, Requesting, Taking, Learning, Telling, Ending, log_of, put_candidate, joined, pending_after, makes_call, asking, with_request, requesting, with_entry, taking, waits_for_it, knows_one_more, learning, telling, known_log, ended, done, at_first, all_done, fenced, AreDisks, Fences, IsReplayOfKnown}
+use Rattle.crash_safety.specs.Network.{Move, file, replayed, beginning, network}
+use Rattle.crash_safety.specs.Fenced.{Request, Entry, Candidate, Fenced, log_of, put_candidate, joined, pending_after, makes_call, asking, with_request, requesting, with_entry, waits_for_it, knows_one_more, learning, ended, AreDisks}
 use Rattle.crash_safety.proofs.Replaying.{replay_more, makes_more, makes_left}
-use Rattle.crash_safety.proofs.Sound.{Comes, CanCome, begins_soundly, comes_still, nothing_numbered}
+use Rattle.crash_safety.proofs.Sound.{Comes, CanCome, begins_soundly}
 use Rattle.crash_safety.proofs.Moving.{goes_on, some_is, none_some}
-use Rattle.crash_safety.proofs.Courses.{after_append}
-use Rattle.crash_safety.proofs.Appending.{Appended, appends_by, append_one}
 
 -- what a candidate waits for is a request for the first of its pending calls
 pub record Waits (requests : List Request) (node : Node) (c : Candidate) (k : ℕ) : Type 0 where
@@ -64,11 +60,11 @@ pub record Leads (ctx : Context) (s : WorldSettings) (f : Fenced) (moves : List 
   pub more : List Move
   pub is : IsFenced ctx s f (moves ++ more)
 
-still : (ctx : Context) (s : WorldSettings) (f : Fenced) (moves : List Move) → IsFenced ctx s f moves → Leads ctx s f moves
+pub still : (ctx : Context) (s : WorldSettings) (f : Fenced) (moves : List Move) → IsFenced ctx s f moves → Leads ctx s f moves
 still ctx s f moves i = record { more = []; is = subst (IsFenced ctx s f) (sym (append-nil moves)) i }
 
 -- tests of numbers
-number_is : (a b : ℕ) → nat_eq a b ≡ true → a ≡ b
+pub number_is : (a b : ℕ) → nat_eq a b ≡ true → a ≡ b
 number_is a b e = grind (arith, e)
 
 by_test : (t : Bool) → (t ≡ true) ⊎ (t ≡ false)
@@ -89,7 +85,7 @@ each_candidate Q f node number c own others x k =
     ]
 
 -- the stream that got an entry, and the others
-each_stream : (Q : Node → List Entry → Type 0) (f : Fenced) (node : Node) (e : Entry) → Q node (f.streams node ++ e ∷ []) → ((x : Node) → (node ≡ x → ⊥) → Q x (f.streams x)) → (x : Node) → Q x ((with_entry f node e).streams x)
+pub each_stream : (Q : Node → List Entry → Type 0) (f : Fenced) (node : Node) (e : Entry) → Q node (f.streams node ++ e ∷ []) → ((x : Node) → (node ≡ x → ⊥) → Q x (f.streams x)) → (x : Node) → Q x ((with_entry f node e).streams x)
 each_stream Q f node e own others x =
     elim (told_apart node x) [
       | inl t ↦ subst (λ b. Q x (cond b (f.streams node ++ e ∷ []) (f.streams x))) (sym t.0) (subst (λ (y : Node). Q y (f.streams node ++ e ∷ [])) t.1 own)
@@ -109,11 +105,11 @@ with_candidate ctx s f moves node number c i fit =
 
 -- the log of a stream is made
 
-take_whole : {A : Type 0} (xs : List A) → take (length xs) xs ≡ xs
+pub take_whole : {A : Type 0} (xs : List A) → take (length xs) xs ≡ xs
 take_whole [] = refl
 take_whole {A = A} (x ∷ xs) = ap (λ (ys : List A). x ∷ ys) (take_whole xs)
 
-length_log : (entries : List Entry) → length (log_of entries) ≡ length entries
+pub length_log : (entries : List Entry) → length (log_of entries) ≡ length entries
 length_log [] = refl
 length_log (e ∷ entries) = ap suc (length_log entries)
 
@@ -124,7 +120,7 @@ makes_stream ctx s f moves node before i opens =
     let lies : file (n.at node) ≡ log_of (f.streams node) = ap (λ (log : List Logged). (n.at node).synced ++ log) (i.idle node) ∙ (append-nil (n.at node).synced ∙ i.are.disks node) in
     subst (Makes ctx before) lies ((sound.each node).makes before opens)
 
-joining_on : (ctx : Context) (s : WorldSettings) (f : Fenced) (moves : List Move) (node : Node) (number : ℕ) → IsFenced ctx s f moves → IsFenced ctx s (put_candidate f node number (joined ctx s node (f.streams node))) moves
+pub joining_on : (ctx : Context) (s : WorldSettings) (f : Fenced) (moves : List Move) (node : Node) (number : ℕ) → IsFenced ctx s f moves → IsFenced ctx s (put_candidate f node number (joined ctx s node (f.streams node))) moves
 joining_on ctx s f moves node number i =
     let log = log_of (f.streams node) in
     let all : take (length (f.streams node)) log ++ [] ≡ log = append-nil (take (length (f.streams node)) log) ∙ (ap (λ (k : ℕ). take k log) (sym (length_log (f.streams node))) ∙ take_whole log) in
@@ -138,7 +134,7 @@ joining_on ctx s f moves node number i =
       waits = λ k e. absurd (none_some k e);
     })
 
-ending_on : (ctx : Context) (s : WorldSettings) (f : Fenced) (moves : List Move) (node : Node) (number : ℕ) → IsFenced ctx s f moves → IsFenced ctx s (put_candidate f node number ended) moves
+pub ending_on : (ctx : Context) (s : WorldSettings) (f : Fenced) (moves : List Move) (node : Node) (number : ℕ) → IsFenced ctx s f moves → IsFenced ctx s (put_candidate f node number ended) moves
 ending_on ctx s f moves node number i =
     with_candidate ctx s f moves node number ended i
     (record {
@@ -189,7 +185,7 @@ call_fit : (ctx : Context) (s : WorldSettings) (wire : List Packet) (requests : 
 call_fit ctx s wire requests log node c call None w comes is = w
 call_fit ctx s wire requests log node c call (Some m) w comes is = after_call_fit ctx s wire requests log node c m call (node_step ctx m call) w comes is refl
 
-asking_on : (ctx : Context) (s : WorldSettings) (f : Fenced) (moves : List Move) (number : ℕ) (event : Event) (o : Option Asked) → IsFenced ctx s f moves → asked f.wire event ≡ o → IsFenced ctx s (asking ctx f number o) moves
+pub asking_on : (ctx : Context) (s : WorldSettings) (f : Fenced) (moves : List Move) (number : ℕ) (event : Event) (o : Option Asked) → IsFenced ctx s f moves → asked f.wire event ≡ o → IsFenced ctx s (asking ctx f number o) moves
 asking_on ctx s f moves number event None i e = i
 asking_on ctx s f moves number event (Some a) i e =
     let c = f.candidates a.node number in
@@ -221,7 +217,7 @@ fair_one ctx s wire requests log node c l more (Some before) w is e =
       comes = (subst (CanCome wire node) is w.comes).0;
     }
 
-requesting_on : (ctx : Context) (s : WorldSettings) (f : Fenced) (moves : List Move) (node : Node) (number : ℕ) (pending : List Logged) → IsFenced ctx s f moves → (f.candidates node number).pending ≡ pending
+pub requesting_on : (ctx : Context) (s : WorldSettings) (f : Fenced) (moves : List Move) (node : Node) (number : ℕ) (pending : List Logged) → IsFenced ctx s f moves → (f.candidates node number).pending ≡ pending
     → IsFenced ctx s (requesting f node number (f.candidates node number) pending) moves
 requesting_on ctx s f moves node number [] i is = i
 requesting_on ctx s f moves node number (l ∷ more) i is =
@@ -305,184 +301,7 @@ learning_by ctx s f moves node number e true i at waits =
     let c = f.candidates node number in
     with_candidate ctx s f moves node number (knows_one_more c c.pending) i (learned ctx s f moves node number e c.waits_for i at refl waits)
 
-learning_on : (ctx : Context) (s : WorldSettings) (f : Fenced) (moves : List Move) (node : Node) (number : ℕ) (o : Option Entry) → IsFenced ctx s f moves → numbered (f.streams node) ((f.candidates node number).known + 1) ≡ o
+pub learning_on : (ctx : Context) (s : WorldSettings) (f : Fenced) (moves : List Move) (node : Node) (number : ℕ) (o : Option Entry) → IsFenced ctx s f moves → numbered (f.streams node) ((f.candidates node number).known + 1) ≡ o
     → IsFenced ctx s (learning f node number (f.candidates node number) o) moves
 learning_on ctx s f moves node number None i at = i
 learning_on ctx s f moves node number (Some e) i at = learning_by ctx s f moves node number e (waits_for_it (f.candidates node number) e (f.candidates node number).waits_for) i at refl
-
--- the stream takes an entry
-
-longer_same : (known : ℕ) (log more : List Logged) → known ≤ length log → take known (log ++ more) ≡ take known log
-longer_same known log more within = take-append-le known log more within
-
-fit_longer : (ctx : Context) (s : WorldSettings) (wire : List Packet) (requests : List Request) (log more : List Logged) (node : Node) (c : Candidate) → IsFit ctx s wire requests log node c → IsFit ctx s wire requests (log ++ more) node c
-fit_longer ctx s wire requests log more node c w =
-    let same : take c.known log ++ c.pending ≡ take c.known (log ++ more) ++ c.pending = ap (λ (x : List Logged). x ++ c.pending) (sym (longer_same c.known log more w.within)) in
-    record {
-      within = let l = length-append log more in let b = w.within in omega (arith, l, b);
-      memory = λ m e. ap (λ (x : List Logged). replayed ctx s node x) (sym same) ∙ w.memory m e;
-      makes = λ before opens. subst (Makes ctx before) same (w.makes before opens);
-      nobody = w.nobody;
-      comes = w.comes;
-      waits = w.waits;
-    }
-
-fair_longer : (ctx : Context) (s : WorldSettings) (wire : List Packet) (log more : List Logged) (r : Request) → IsFair ctx s wire log r → IsFair ctx s wire (log ++ more) r
-fair_longer ctx s wire log more r w =
-    record {
-      within = let l = length-append log more in let b = w.within in omega (arith, l, b);
-      before = w.before;
-      opens = w.opens;
-      makes = subst (Makes ctx w.before) (ap (λ (x : List Logged). x ++ r.logged ∷ []) (sym (longer_same r.expected log more w.within))) w.makes;
-      comes = w.comes;
-    }
-
--- the log of a stream with one more entry
-log_more : (entries : List Entry) (e : Entry) → log_of (entries ++ e ∷ []) ≡ log_of entries ++ e.logged ∷ []
-log_more entries e = map-append (λ (x : Entry). x.logged) entries (e ∷ [])
-
-entered : (ctx : Context) (s : WorldSettings) (f : Fenced) (moves more : List Move) (k : ℕ) (r : Request) → IsFenced ctx s f moves → numbered f.requests k ≡ Some r → Appended (network ctx s moves) (network ctx s (moves ++ more)) r.node r.logged
-    → IsFenced ctx s (with_entry f r.node (record { request = k; logged = r.logged })) (moves ++ more)
-entered ctx s f moves more k r i is a =
-    let e : Entry = record { request = k; logged = r.logged } in
-    let n = network ctx s moves in
-    let m = network ctx s (moves ++ more) in
-    let grown = log_more (f.streams r.node) e in
-    record {
-      are = record {
-        disks = each_stream (λ (x : Node) (entries : List Entry). (m.at x).synced ≡ log_of entries) f r.node e
-            (a.own ∙ (ap (λ (log : List Logged). log ++ r.logged ∷ []) (i.are.disks r.node) ∙ sym grown))
-            (λ x d. ap (λ (p : Process). p.synced) (a.others x d) ∙ i.are.disks x);
-        wire = a.wire ∙ i.are.wire;
-      };
-      idle = λ x. elim (told_apart r.node x) [
-        | inl t ↦ subst (λ (y : Node). (m.at y).unsynced ≡ []) t.1 a.idle
-        | inr t ↦ ap (λ (p : Process). p.unsynced) (a.others x t.1) ∙ i.idle x
-      ];
-      fit = each_stream (λ (x : Node) (entries : List Entry). (number : ℕ) → IsFit ctx s f.wire f.requests (log_of entries) x (f.candidates x number)) f r.node e
-          (λ number. subst (λ (log : List Logged). IsFit ctx s f.wire f.requests log r.node (f.candidates r.node number)) (sym grown)
-          (fit_longer ctx s f.wire f.requests (log_of (f.streams r.node)) (r.logged ∷ []) r.node (f.candidates r.node number) (i.fit r.node number)))
-          (λ x d number. i.fit x number);
-      fair = λ j q there. each_stream (λ (x : Node) (entries : List Entry). q.node ≡ x → IsFair ctx s f.wire (log_of entries) q) f r.node e
-          (λ same. subst (λ (log : List Logged). IsFair ctx s f.wire log q) (sym grown)
-          (fair_longer ctx s f.wire (log_of (f.streams r.node)) (r.logged ∷ []) q (subst (λ (y : Node). IsFair ctx s f.wire (log_of (f.streams y)) q) same (i.fair j q there))))
-          (λ x d same. subst (λ (y : Node). IsFair ctx s f.wire (log_of (f.streams y)) q) same (i.fair j q there))
-          q.node refl;
-      each = each_stream (λ (x : Node) (entries : List Entry). AllByRecursion (HasRequest f.requests) entries) f r.node e
-          (all_append (HasRequest f.requests) (f.streams r.node) (e ∷ []) (i.each r.node) (record { request = r; is = is; same = refl }, tt))
-          (λ x d. i.each x);
-    }
-
-taking_one : (ctx : Context) (s : WorldSettings) (f : Fenced) (moves : List Move) (k : ℕ) (r : Request) → IsFenced ctx s f moves → numbered f.requests k ≡ Some r → r.expected ≡ length (f.streams r.node)
-    → Leads ctx s (with_entry f r.node (record { request = k; logged = r.logged })) moves
-taking_one ctx s f moves k r i is ends =
-    let n = network ctx s moves in
-    let log = log_of (f.streams r.node) in
-    let w = i.fair k r is in
-    let event = w.comes.event in
-    let all : take r.expected log ≡ log = ap (λ (x : ℕ). take x log) (ends ∙ sym (length_log (f.streams r.node))) ∙ take_whole log in
-    let makes : Makes ctx w.before ((n.at r.node).synced ++ r.logged ∷ []) =
-    subst (λ (x : List Logged). Makes ctx w.before (x ++ r.logged ∷ [])) (all ∙ sym (i.are.disks r.node)) w.makes in
-    let a = append_one ctx s n r.node w.before r.logged event (i.idle r.node) w.opens makes (ap (λ (wire : List Packet). asked wire event) i.are.wire ∙ w.comes.asks) in
-    let more = appends_by r.node event in
-    record { more = more; is = entered ctx s f moves more k r i is (subst (λ (m : Network). Appended n m r.node r.logged) (sym (after_append ctx s beginning moves more)) a) }
-
-taking_by : (ctx : Context) (s : WorldSettings) (f : Fenced) (moves : List Move) (k : ℕ) (r : Request) (t : Bool) → IsFenced ctx s f moves → numbered f.requests k ≡ Some r → nat_eq r.expected (length (f.streams r.node)) ≡ t
-    → Leads ctx s (cond t (with_entry f r.node (record { request = k; logged = r.logged })) f) moves
-taking_by ctx s f moves k r false i is test = still ctx s f moves i
-taking_by ctx s f moves k r true i is test = taking_one ctx s f moves k r i is (number_is r.expected (length (f.streams r.node)) test)
-
-taking_on : (ctx : Context) (s : WorldSettings) (f : Fenced) (moves : List Move) (k : ℕ) (o : Option Request) → IsFenced ctx s f moves → numbered f.requests k ≡ o → Leads ctx s (taking f k o) moves
-taking_on ctx s f moves k None i is = still ctx s f moves i
-taking_on ctx s f moves k (Some r) i is = taking_by ctx s f moves k r (nat_eq r.expected (length (f.streams r.node))) i is refl
-
--- a word
-
-sends_more : (node : Node) (log more : List Logged) → posted_by node (log ++ more) ≡ posted_by node log ++ posted_by node more
-sends_more node log more =
-    ap (map (packet_from node)) (flat_map-append (λ (l : Logged). l.sent) log more) ∙ map-append (packet_from node) (flat_map (λ (l : Logged). l.sent) log) (flat_map (λ (l : Logged). l.sent) more)
-
-fit_heard : (ctx : Context) (s : WorldSettings) (wire more : List Packet) (requests : List Request) (log : List Logged) (node : Node) (c : Candidate) → IsFit ctx s wire requests log node c → IsFit ctx s (wire ++ more) requests log node c
-fit_heard ctx s wire more requests log node c w =
-    record { within = w.within; memory = w.memory; makes = w.makes; nobody = w.nobody; comes = comes_still wire more node c.pending w.comes; waits = w.waits }
-
-fair_heard : (ctx : Context) (s : WorldSettings) (wire more : List Packet) (log : List Logged) (r : Request) → IsFair ctx s wire log r → IsFair ctx s (wire ++ more) log r
-fair_heard ctx s wire more log r w =
-    let a : Asked = record { node = r.node; call = r.logged.call } in
-    record { within = w.within; before = w.before; opens = w.opens; makes = w.makes; comes = record { event = w.comes.event; asks = asks_still wire more w.comes.event a w.comes.asks } }
-
-said_more : (ctx : Context) (s : WorldSettings) (n : Network) (node : Node) (k : ℕ) (p : Packet) → numbered (posted_by node (n.at node).synced) k ≡ Some p → after ctx s n (Saying node k ∷ []) ≡ record { at = n.at; wire = n.wire ++ p ∷ [] }
-unfolding moved
-said_more ctx s n node k p e = ap (saying n) e
-
-telling_on : (ctx : Context) (s : WorldSettings) (f : Fenced) (moves : List Move) (node : Node) (number k : ℕ) (o : Option Packet) → IsFenced ctx s f moves → numbered (posted_by node (known_log f node number)) k ≡ o → Leads ctx s (telling f o) moves
-telling_on ctx s f moves node number k None i is = still ctx s f moves i
-telling_on ctx s f moves node number k (Some p) i is =
-    let n = network ctx s moves in
-    let log = log_of (f.streams node) in
-    let known = (f.candidates node number).known in
-    let parts : posted_by node (take known log) ++ posted_by node (drop known log) ≡ posted_by node (n.at node).synced =
-    sym (sends_more node (take known log) (drop known log)) ∙ ap (posted_by node) (take-append-drop known log ∙ sym (i.are.disks node)) in
-    let there : numbered (posted_by node (n.at node).synced) k ≡ Some p =
-    ap (λ (ps : List Packet). numbered ps k) (sym parts) ∙ numbered_append (posted_by node (take known log)) (posted_by node (drop known log)) k p is in
-    let ends : network ctx s (moves ++ Saying node k ∷ []) ≡ record { at = n.at; wire = n.wire ++ p ∷ [] } = after_append ctx s beginning moves (Saying node k ∷ []) ∙ said_more ctx s n node k p there in
-    record {
-      more = Saying node k ∷ [];
-      is = record {
-        are = record {
-          disks = λ x. ap (λ (m : Network). (m.at x).synced) ends ∙ i.are.disks x;
-          wire = ap (λ (m : Network). m.wire) ends ∙ ap (λ (wire : List Packet). wire ++ p ∷ []) i.are.wire;
-        };
-        idle = λ x. ap (λ (m : Network). (m.at x).unsynced) ends ∙ i.idle x;
-        fit = λ x j. fit_heard ctx s f.wire (p ∷ []) f.requests (log_of (f.streams x)) x (f.candidates x j) (i.fit x j);
-        fair = λ j r e. fair_heard ctx s f.wire (p ∷ []) (log_of (f.streams r.node)) r (i.fair j r e);
-        each = i.each;
-      };
-    }
-
--- any deed, and all
-
-deed_on : (ctx : Context) (s : WorldSettings) (f : Fenced) (moves : List Move) (deed : Deed) → IsFenced ctx s f moves → Leads ctx s (done ctx s f deed) moves
-unfolding done
-deed_on ctx s f moves (Joining node number) i = still ctx s _ moves (joining_on ctx s f moves node number i)
-deed_on ctx s f moves (Asking number event) i = still ctx s _ moves (asking_on ctx s f moves number event (asked f.wire event) i refl)
-deed_on ctx s f moves (Requesting node number) i = still ctx s _ moves (requesting_on ctx s f moves node number (f.candidates node number).pending i refl)
-deed_on ctx s f moves (Taking k) i = taking_on ctx s f moves k (numbered f.requests k) i refl
-deed_on ctx s f moves (Learning node number) i = still ctx s _ moves (learning_on ctx s f moves node number (numbered (f.streams node) ((f.candidates node number).known + 1)) i refl)
-deed_on ctx s f moves (Telling node number k) i = telling_on ctx s f moves node number k (numbered (posted_by node (known_log f node number)) k) i refl
-deed_on ctx s f moves (Ending node number) i = still ctx s _ moves (ending_on ctx s f moves node number i)
-
-deeds_on : (ctx : Context) (s : WorldSettings) (f : Fenced) (moves : List Move) (deeds : List Deed) → IsFenced ctx s f moves → Leads ctx s (all_done ctx s f deeds) moves
-deeds_on ctx s f moves [] i = still ctx s f moves i
-deeds_on ctx s f moves (deed ∷ deeds) i =
-    let one = deed_on ctx s f moves deed i in
-    let rest = deeds_on ctx s (done ctx s f deed) (moves ++ one.more) deeds one.is in
-    record { more = one.more ++ rest.more; is = subst (IsFenced ctx s (all_done ctx s (done ctx s f deed) deeds)) (append_assoc moves one.more rest.more) rest.is }
-
-begins_fenced : (ctx : Context) (s : WorldSettings) → IsFenced ctx s at_first []
-begins_fenced ctx s =
-    record {
-      are = record { disks = λ x. refl; wire = refl };
-      idle = λ x. refl;
-      fit = λ x k. record { within = omega arith; memory = λ m e. absurd (none_some m e); makes = λ before opens. tt; nobody = λ e. refl; comes = tt; waits = λ j e. absurd (none_some j e) };
-      fair = λ k r e. absurd (nothing_numbered k r e);
-      each = λ x. tt;
-    }
-
-all_done_append : (ctx : Context) (s : WorldSettings) (f : Fenced) (deeds more : List Deed) → all_done ctx s f (deeds ++ more) ≡ all_done ctx s (all_done ctx s f deeds) more
-all_done_append ctx s f [] more = refl
-all_done_append ctx s f (deed ∷ deeds) more = all_done_append ctx s (done ctx s f deed) deeds more
-
-pub fences : (ctx : Context) (s : WorldSettings) (deeds more : List Deed) → Fences ctx s (fenced ctx s deeds) (fenced ctx s (deeds ++ more))
-fences ctx s deeds more =
-    let first = deeds_on ctx s at_first [] deeds (begins_fenced ctx s) in
-    let second = deeds_on ctx s (fenced ctx s deeds) first.more more first.is in
-    record {
-      moves = first.more;
-      more = second.more;
-      first = first.is.are;
-      last = subst (λ (f : Fenced). AreDisks ctx s f (first.more ++ second.more)) (sym (all_done_append ctx s at_first deeds more)) second.is.are;
-    }
-
-pub candidate_replays : (ctx : Context) (s : WorldSettings) (deeds : List Deed) (node : Node) (number : ℕ) → IsReplayOfKnown ctx s (fenced ctx s deeds) node number
-candidate_replays ctx s deeds node number = ((deeds_on ctx s at_first [] deeds (begins_fenced ctx s)).is.fit node number).memory

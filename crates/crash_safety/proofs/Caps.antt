@@ -1,5 +1,5 @@
 -- The switch of an opening world, and that a switch stays one, whatever calls it makes.
-use Rattle.std.proofs.Common.{◌≡◌, ℕ, zero, suc, List, [], ◌∷◌, Option, Some}
+use Rattle.std.proofs.Common.{◌≡◌, ℕ, zero, suc, List, [], ◌∷◌, Some}
 use Rattle.std.specs.Prelude.{⊤, option_map}
 use Rattle.claim_model.specs.Context.{Context}
 use Rattle.claim_model.specs.Numbered.{numbered}

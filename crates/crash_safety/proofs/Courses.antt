@@ -74,7 +74,7 @@ stays_said ctx s moves more k p e =
 
 -- an element that passes a test stands among those that pass it
 
-one_further : (packets : List Packet) (p q : Packet) → IsAmong packets p → IsAmong (q ∷ packets) p
+pub one_further : (packets : List Packet) (p q : Packet) → IsAmong packets p → IsAmong (q ∷ packets) p
 one_further packets p q a = further a.number a.is
   where
     further : (n : ℕ) → numbered packets n ≡ Some p → IsAmong (q ∷ packets) p

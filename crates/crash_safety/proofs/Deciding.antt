@@ -25,7 +25,7 @@ record Found (test : Packet → Bool) (packets : List Packet) : Type 0 where
   passes : test packet_is ≡ true
 
 further : (test : Packet → Bool) (q : Packet) (packets : List Packet) → Found test packets → Found test (q ∷ packets)
-further test q packets f = record { packet_is = f.packet_is; among = Rattle.crash_safety.proofs.Lighter.one_further packets f.packet_is q f.among; passes = f.passes }
+further test q packets f = record { packet_is = f.packet_is; among = Rattle.crash_safety.proofs.Courses.one_further packets f.packet_is q f.among; passes = f.passes }
 
 found : (test : Packet → Bool) (packets : List Packet) → list_any test packets ≡ true → Found test packets
 found test [] e = absurd cc

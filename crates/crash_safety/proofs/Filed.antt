@@ -1,24 +1,21 @@
 -- All that lies in the files of pharmacies and payers is synced, whatever switches are.
-use Rattle.std.proofs.Common.{◌≡◌, ℕ, zero, suc, ◌≤◌, List, [], ◌∷◌, ◌++◌, length, Option, Some, None, refl, sym, ap, ◌∙◌, subst, ◌⊎◌, inl, inr, append_assoc, arith}
-use Rattle.std.specs.Prelude.{option_map}
+use Rattle.std.proofs.Common.{◌≡◌, ℕ, zero, suc, ◌≤◌, List, [], ◌∷◌, ◌++◌, length, refl, sym, ap, ◌∙◌, subst, ◌⊎◌, inl, inr, append_assoc, arith}
 use Rattle.std.proofs.lemmas.List.{append-nil}
 use Rattle.std.proofs.lemmas.Bool.{cases_eq}
 use Rattle.claim_model.specs.Context.{Context}
 use Rattle.claim_model.specs.Laws.{Laws}
 use Rattle.claim_model.specs.Numbered.{numbered}
-use Rattle.claim_model.specs.Journal.{Journal, JournalAtRest}
-use Rattle.claim_model.specs.Rows.{Book}
-use Rattle.claim_model.specs.Node.{Node, Pharmacy, Payer, Power}
+use Rattle.claim_model.specs.Node.{Node, Pharmacy, Payer}
 use Rattle.claim_model.specs.Settings.{WorldSettings, Accepts, opening}
-use Rattle.claim_model.specs.Nodes.{OfPharmacy, OfPayer}
 use Rattle.claim_model.specs.Logs.{Logged}
-use Rattle.claim_model.proofs.Lists.{numbered_within}
 use Rattle.crash_safety.specs.Network.{Process, Network, file, put, beginning}
 use Rattle.crash_safety.specs.Explained.{Turn}
 use Rattle.crash_safety.specs.Handing.{Happening, handing, OrdersFiles}
 use Rattle.crash_safety.proofs.Sound.{at_each}
-use Rattle.crash_safety.proofs.Explaining.{NoSwitch}
-use Rattle.crash_safety.proofs.Handed.{IsOrdered, sync_one, happens_all, begins_ordered, orders}
+use Rattle.crash_safety.proofs.Finishing.{same_file, nothing_left, UpTo, named_pharmacy, named_payer, all_synced}
+use Rattle.crash_safety.proofs.Sources.{NoSwitch}
+use Rattle.crash_safety.proofs.Handed.{IsOrdered}
+use Rattle.crash_safety.proofs.Happening.{sync_one, happens_all, begins_ordered, orders}
 
 -- a later network with the same files, in which these nodes have nothing that is not synced
 record Finished (ctx : Context) (s : WorldSettings) (n : Network) (turns : List Turn) (P : Node → Type 0) : Type 0 where
@@ -38,12 +35,6 @@ then ctx s n turns P Q f g = record {
   stays = λ node e. g.stays node (f.stays node e);
   all = λ node e. elim e [ inl p ↦ g.stays node (f.all node p) | inr q ↦ g.all node q ];
 }
-
-same_file : (p : Process) (l : Logged) (more : List Logged) → p.unsynced ≡ l ∷ more → (p.synced ++ l ∷ []) ++ more ≡ file p
-same_file p l more e = append_assoc p.synced (l ∷ []) more ∙ ap (λ (log : List Logged). p.synced ++ log) (sym e)
-
-nothing_left : (p : Process) (l : Logged) (more : List Logged) (A : Type 0) → p.unsynced ≡ l ∷ more → p.unsynced ≡ [] → A
-nothing_left p l more A e f = let wrong : l ∷ more ≡ [] = sym e ∙ f in absurd cc
 
 finish_node : (ctx : Context) (s : WorldSettings) (n : Network) (turns : List Turn) (node : Node) (left : List Logged) → IsOrdered ctx s n turns → NoSwitch node → (n.at node).unsynced ≡ left → Finished ctx s n turns (λ (x : Node). node ≡ x)
 finish_node ctx s n turns node [] i d e = record {
@@ -69,9 +60,6 @@ finish_node ctx s n turns node (l ∷ more) i d e =
       stays = λ x f. rest.stays x (at_each (λ (y : Node) (q : Process). (n.at y).unsynced ≡ [] → q.unsynced ≡ []) n node next (nothing_left p l more (more ≡ []) e) (λ other g h. h) x f);
       all = rest.all;
     }
-
-abbrev UpTo : (ℕ → Node) → ℕ → Node → Type 0
-UpTo kind most node = (k : ℕ) × (k ≤ most) × (kind k ≡ node)
 
 finish_kind : (ctx : Context) (s : WorldSettings) (n : Network) (turns : List Turn) (kind : ℕ → Node) (most : ℕ) → IsOrdered ctx s n turns → ((k : ℕ) → NoSwitch (kind k)) → Finished ctx s n turns (UpTo kind most)
 finish_kind ctx s n turns kind zero i d =
@@ -104,17 +92,6 @@ finish_kind ctx s n turns kind (suc most) i d =
     below k most h d = grind (arith, h, d)
 
 -- pharmacies and payers
-
-named_pharmacy : (xs : List (Power Journal JournalAtRest)) (k : ℕ) (o : Option (Power Journal JournalAtRest)) → numbered xs k ≡ o → (option_map OfPharmacy o ≡ None) ⊎ UpTo Pharmacy (length xs) (Pharmacy k)
-named_pharmacy xs k None e = inl refl
-named_pharmacy xs k (Some x) e = inr (k, (numbered_within xs k x e).1, refl)
-
-named_payer : (xs : List (Power Book Book)) (k : ℕ) (o : Option (Power Book Book)) → numbered xs k ≡ o → (option_map OfPayer o ≡ None) ⊎ UpTo Payer (length xs) (Payer k)
-named_payer xs k None e = inl refl
-named_payer xs k (Some x) e = inr (k, (numbered_within xs k x e).1, refl)
-
-all_synced : (p : Process) → p.unsynced ≡ [] → p.synced ≡ file p
-all_synced p e = sym (ap (λ (log : List Logged). p.synced ++ log) e ∙ append-nil p.synced)
 
 abbrev IsNamed : WorldSettings → Node → Type 0
 IsNamed s node = UpTo Pharmacy (length (opening s).pharmacies) node ⊎ UpTo Payer (length (opening s).payers) node

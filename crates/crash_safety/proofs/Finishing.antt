@@ -44,10 +44,10 @@ finished_then ctx s n events P Q f g =
 
 -- one node
 
-same_file : (p : Process) (l : Logged) (more : List Logged) → p.unsynced ≡ l ∷ more → (p.synced ++ l ∷ []) ++ more ≡ file p
+pub same_file : (p : Process) (l : Logged) (more : List Logged) → p.unsynced ≡ l ∷ more → (p.synced ++ l ∷ []) ++ more ≡ file p
 same_file p l more e = append_assoc p.synced (l ∷ []) more ∙ ap (λ (log : List Logged). p.synced ++ log) (sym e)
 
-nothing_left : (p : Process) (l : Logged) (more : List Logged) (A : Type 0) → p.unsynced ≡ l ∷ more → p.unsynced ≡ [] → A
+pub nothing_left : (p : Process) (l : Logged) (more : List Logged) (A : Type 0) → p.unsynced ≡ l ∷ more → p.unsynced ≡ [] → A
 nothing_left p l more A e f = let wrong : l ∷ more ≡ [] = sym e ∙ f in absurd cc
 
 pub finish_node : (ctx : Context) (s : WorldSettings) (n : Network) (events : List Event) (node : Node) (left : List Logged) → IsSound ctx s n events → (n.at node).unsynced ≡ left → Finished ctx s n events (λ (x : Node). node ≡ x)
@@ -80,7 +80,7 @@ finish_node ctx s n events node (l ∷ more) i e =
 
 -- all nodes of a kind
 
-abbrev UpTo : (ℕ → Node) → ℕ → Node → Type 0
+abbrev pub UpTo : (ℕ → Node) → ℕ → Node → Type 0
 UpTo kind most node = (k : ℕ) × (k ≤ most) × (kind k ≡ node)
 
 finish_kind : (ctx : Context) (s : WorldSettings) (n : Network) (events : List Event) (kind : ℕ → Node) (most : ℕ) → IsSound ctx s n events → Finished ctx s n events (UpTo kind most)
@@ -120,7 +120,7 @@ finish_kind ctx s n events kind (suc most) i =
 abbrev IsNamed : WorldSettings → Node → Type 0
 IsNamed s node = (UpTo Pharmacy (length (opening s).pharmacies) node ⊎ UpTo Switch (length (opening s).switches) node) ⊎ UpTo Payer (length (opening s).payers) node
 
-named_pharmacy : (xs : List (Power Journal JournalAtRest)) (k : ℕ) (o : Option (Power Journal JournalAtRest)) → numbered xs k ≡ o
+pub named_pharmacy : (xs : List (Power Journal JournalAtRest)) (k : ℕ) (o : Option (Power Journal JournalAtRest)) → numbered xs k ≡ o
     → (option_map OfPharmacy o ≡ None) ⊎ UpTo Pharmacy (length xs) (Pharmacy k)
 named_pharmacy xs k None e = inl refl
 named_pharmacy xs k (Some x) e = inr (k, (numbered_within xs k x e).1, refl)
@@ -129,7 +129,7 @@ named_switch : (xs : List (Power Table ℕ)) (k : ℕ) (o : Option (Power Table 
 named_switch xs k None e = inl refl
 named_switch xs k (Some x) e = inr (k, (numbered_within xs k x e).1, refl)
 
-named_payer : (xs : List (Power Book Book)) (k : ℕ) (o : Option (Power Book Book)) → numbered xs k ≡ o → (option_map OfPayer o ≡ None) ⊎ UpTo Payer (length xs) (Payer k)
+pub named_payer : (xs : List (Power Book Book)) (k : ℕ) (o : Option (Power Book Book)) → numbered xs k ≡ o → (option_map OfPayer o ≡ None) ⊎ UpTo Payer (length xs) (Payer k)
 named_payer xs k None e = inl refl
 named_payer xs k (Some x) e = inr (k, (numbered_within xs k x e).1, refl)
 
@@ -152,7 +152,7 @@ pub record FilesRun (ctx : Context) (s : WorldSettings) (n : Network) (events : 
   pub beyond : List Event
   pub has : HasRun ctx s (in_files n) n.wire (events ++ beyond)
 
-all_synced : (p : Process) → p.unsynced ≡ [] → p.synced ≡ file p
+pub all_synced : (p : Process) → p.unsynced ≡ [] → p.synced ≡ file p
 all_synced p e = sym (ap (λ (log : List Logged). p.synced ++ log) e ∙ append-nil p.synced)
 
 pub files_run : (ctx : Context) (s : WorldSettings) (n : Network) (events : List Event) → IsSound ctx s n events → FilesRun ctx s n events

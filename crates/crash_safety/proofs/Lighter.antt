@@ -1,5 +1,5 @@
 -- A network in which switches have no disk, beside one in which each call of a switch is synced as soon as it is made, and a death is a stop, the cap of the settings, and a start.
-use Rattle.std.proofs.Common.{◌≡◌, ℕ, zero, suc, cond, List, [], ◌∷◌, ◌++◌, map, Option, Some, None, refl, sym, ap, ◌∙◌, subst}
+use Rattle.std.proofs.Common.{◌≡◌, ℕ, cond, List, [], ◌∷◌, ◌++◌, map, Option, Some, None, refl, sym, ap, ◌∙◌, subst}
 use Rattle.std.specs.Prelude.{option_map, flat_map}
 use Rattle.std.specs.List.{AllByRecursion}
 use Rattle.std.proofs.lemmas.List.{map-append}
@@ -19,7 +19,7 @@ use Rattle.crash_safety.specs.Diskless.{moved_light, after_light, light, or_else
 use Rattle.crash_safety.proofs.Replaying.{replay_more, makes_more}
 use Rattle.crash_safety.proofs.Sound.{at_each}
 use Rattle.crash_safety.proofs.Moving.{some_is}
-use Rattle.crash_safety.proofs.Courses.{after_append}
+use Rattle.crash_safety.proofs.Courses.{after_append, one_further}
 use Rattle.crash_safety.proofs.Appending.{Appended, appends_by, append_one}
 use Rattle.crash_safety.proofs.Caps.{IsSwitch, replay_stays, empty_switch, opens_empty}
 
@@ -27,13 +27,6 @@ use Rattle.crash_safety.proofs.Caps.{IsSwitch, replay_stays, empty_switch, opens
 
 pub among_left : (xs ys : List Packet) (p : Packet) → IsAmong xs p → IsAmong (xs ++ ys) p
 among_left xs ys p a = record { number = a.number; is = numbered_append xs ys a.number p a.is }
-
-pub one_further : (packets : List Packet) (p q : Packet) → IsAmong packets p → IsAmong (q ∷ packets) p
-one_further packets p q a = further a.number a.is
-  where
-    further : (n : ℕ) → numbered packets n ≡ Some p → IsAmong (q ∷ packets) p
-    further zero e = absurd cc
-    further (suc n) e = record { number = suc (suc n); is = e }
 
 pub among_right : (xs ys : List Packet) (p : Packet) → IsAmong ys p → IsAmong (xs ++ ys) p
 among_right [] ys p a = a

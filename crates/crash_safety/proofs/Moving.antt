@@ -170,7 +170,7 @@ saying_on ctx s n events node k (Some p) i e =
 
 -- a sync: the run makes the call
 
-is_done : (o : Outcome World) (v : World) (sent : List Sent) → o ≡ Done v sent → IsDone o
+pub is_done : (o : Outcome World) (v : World) (sent : List Sent) → o ≡ Done v sent → IsDone o
 is_done o v sent e = subst IsDone (sym e) tt
 
 more_among : (before more : List Packet) (p : Packet) → IsAmong before p → IsAmong (before ++ more) p

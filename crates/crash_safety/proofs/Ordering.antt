@@ -10,7 +10,7 @@ use Rattle.claim_model.specs.World.{Packet, Event, packet_from}
 use Rattle.claim_model.specs.Settings.{opening}
 use Rattle.claim_model.specs.Nodes.{AnyNode, node_at, same_node, Asked, asked}
 use Rattle.claim_model.specs.Logs.{Logged, Makes, posted_by}
-use Rattle.claim_model.proofs.Lists.{numbered_append, numbered_more, all_at, all_append, all_weaker}
+use Rattle.claim_model.proofs.Lists.{numbered_more, all_at, all_append, all_weaker}
 use Rattle.claim_model.proofs.Options.{same_some}
 use Rattle.claim_model.proofs.Names.{told_apart, same_self}
 use Rattle.claim_model.proofs.Posting.{posted_more}
@@ -26,16 +26,13 @@ use Rattle.crash_safety.proofs.Replaying.{makes_left}
 use Rattle.crash_safety.proofs.Sound.{Comes, CanCome, IsWell, at_each, well_with_more, nothing_numbered}
 use Rattle.crash_safety.proofs.Moving.{calls_well, comes_again, empty_left, no_nothing, none_some}
 use Rattle.crash_safety.proofs.Appending.{put_own}
-use Rattle.crash_safety.proofs.Lighter.{among_right, all_themselves, posted_append}
+use Rattle.crash_safety.proofs.Lighter.{among_left, among_right, all_themselves, posted_append}
 
 -- ---- packets of turns
 
 abbrev pub posts_by : List Turn → List Packet
 posts_by [] = []
 posts_by (t ∷ turns) = map (packet_from t.asked.node) t.sent ++ posts_by turns
-
-among_front : (xs ys : List Packet) (p : Packet) → IsAmong xs p → IsAmong (xs ++ ys) p
-among_front xs ys p a = record { number = a.number; is = numbered_append xs ys a.number p a.is }
 
 -- an order, and a turn more
 order_more : (packets : List Packet) (turns : List Turn) (t : Turn) → IsOrder packets turns → asked (packets ++ posts_by turns) t.event ≡ Some t.asked → IsOrder packets (turns ++ t ∷ [])
@@ -71,7 +68,7 @@ sent_in_turns (t ∷ turns) node =
     elim (told_apart t.asked.node node) [
       | inl own ↦
           let first : AllByRecursion (IsAmong (one ++ rest)) (map (packet_from node) t.sent) =
-          subst (λ (x : Node). AllByRecursion (IsAmong (one ++ rest)) (map (packet_from x) t.sent)) own.1 (all_weaker (IsAmong one) (IsAmong (one ++ rest)) (among_front one rest) one (all_themselves one)) in
+          subst (λ (x : Node). AllByRecursion (IsAmong (one ++ rest)) (map (packet_from x) t.sent)) own.1 (all_weaker (IsAmong one) (IsAmong (one ++ rest)) (among_left one rest) one (all_themselves one)) in
           subst (λ (log : List Logged). AllByRecursion (IsAmong (one ++ rest)) (posted_by node log)) (sym (own_turn t turns node own.0))
           (subst (AllByRecursion (IsAmong (one ++ rest))) (sym (posted_more node (turn_of t) (turns_of turns node)))
           (all_append (IsAmong (one ++ rest)) (map (packet_from node) t.sent) (posted_by node (turns_of turns node)) first further))
@@ -116,7 +113,7 @@ said_still : (n : Network) (node : Node) (p : Process) → Longer (n.at node).sy
 said_still n node p l q a =
     let x = at_each (λ (x : Node) (r : Process). Longer (n.at x).synced r.synced) n node p l (λ other d. record { more = []; is = sym (append-nil (n.at other).synced) }) q.from in
     subst (λ (log : List Logged). IsAmong (posted_by q.from log) q) (sym x.is)
-    (subst (λ (ps : List Packet). IsAmong ps q) (sym (posted_append q.from (n.at q.from).synced x.more)) (among_front (posted_by q.from (n.at q.from).synced) (posted_by q.from x.more) q a))
+    (subst (λ (ps : List Packet). IsAmong ps q) (sym (posted_append q.from (n.at q.from).synced x.more)) (among_left (posted_by q.from (n.at q.from).synced) (posted_by q.from x.more) q a))
 
 module _ (stages : ℕ → Stage) (g : Growing) (turns : List Turn) (i : IsOrdered stages g turns) where
   -- a process that changes in memory and after its synced calls alone

@@ -21,8 +21,8 @@ use Rattle.crash_safety.specs.Greedy.{sent_among, BeginsAs, CanTake, GoesOn, Has
 use Rattle.crash_safety.proofs.Sound.{nothing_numbered}
 use Rattle.crash_safety.proofs.Lighter.{among_left, among_right, all_themselves}
 use Rattle.crash_safety.proofs.Lightness.{course_here}
-use Rattle.crash_safety.proofs.Explaining.{among_split}
-use Rattle.crash_safety.proofs.Telling.{reads_same}
+use Rattle.crash_safety.proofs.Sources.{among_split}
+use Rattle.crash_safety.proofs.Rerouted.{reads_same}
 use Rattle.crash_safety.proofs.Tracking.{runs_explained, pharmacy_logs, payer_logs}
 
 -- more packets explain what fewer did

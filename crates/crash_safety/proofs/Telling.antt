@@ -1,43 +1,40 @@
 -- What a pharmacy has heard was decided on the disks of that moment, and so stays decided.
 use Rattle.std.proofs.Common.{◌≡◌, ℕ, Bool, true, false, cond, List, [], ◌∷◌, ◌++◌, Option, Some, None, Result, Ok, Err, refl, sym, ap, ◌∙◌, subst, inl, inr, append_assoc}
-use Rattle.std.specs.Prelude.{option_map, option_and_then}
 use Rattle.std.specs.List.{AllByRecursion}
 use Rattle.std.proofs.lemmas.Bool.{cases_eq, cond-true}
-use Rattle.claim_model.specs.Words.{Advice, TxnId, RequestHeader, Ruling, Envelope, EnvelopeFault, Answer, RouteKey}
+use Rattle.claim_model.specs.Words.{TxnId, RequestHeader, Envelope, EnvelopeFault}
 use Rattle.claim_model.specs.Context.{Context}
-use Rattle.claim_model.specs.Laws.{Laws, Spells, AdvisesWell}
+use Rattle.claim_model.specs.Laws.{Laws}
 use Rattle.claim_model.specs.declared.refusal.Refusal.{Refusal}
-use Rattle.claim_model.specs.Readable.{readable, payer_for, is_payer, rejection, answer_text, is_request, route_key}
+use Rattle.claim_model.specs.Readable.{readable, payer_for, is_payer, rejection, answer_text, is_request}
 use Rattle.claim_model.specs.Numbered.{numbered, renumbered}
 use Rattle.claim_model.specs.Rows.{Row, Book}
-use Rattle.claim_model.specs.Book.{Answered, row_of, new_row, answered_by, answered_readable, answered}
+use Rattle.claim_model.specs.Book.{row_of, answered_by, answered_readable, answered}
 use Rattle.claim_model.specs.Journal.{RetryRule, Journal, JournalAtRest, Kept, Submitted, submitted, ticked, heard, stopped, started, is_rule, with_rule, ruled_anew}
 use Rattle.claim_model.specs.Node.{Node, Pharmacy, Power, Up, AtRest, Call, Submit, Tick, Take, Stop, Start, Revise, OfPlan, OfRule, OfCap, Adjudicate, Done, Refused, after_submit, after_hearing, pharmacy_takes}
 use Rattle.claim_model.specs.World.{World, Packet, Event, Submission, Ticking, Delivery, Stopping, Starting, Revising, Adjudication, run}
 use Rattle.claim_model.specs.Settings.{WorldSettings, Accepts, opening}
-use Rattle.claim_model.specs.Held.{journal_in, book_at, asked as submitted_under, row_at, row_answer, decided_by, decided_for, decided, held}
+use Rattle.claim_model.specs.Held.{journal_in, book_at, asked as submitted_under, row_at, decided, held}
 use Rattle.claim_model.specs.Carried.{Carries, IsVouched}
 use Rattle.claim_model.specs.Nodes.{AnyNode, OfPharmacy, OfSwitch, OfPayer, as_node, node_step, node_at, Asked, taking, adjudicating, asked}
 use Rattle.claim_model.specs.Logs.{Logged, node_after, replay}
-use Rattle.claim_model.specs.Promises.{Reached}
 use Rattle.claim_model.proofs.Lists.{all_weaker, numbered_more, numbered_put, numbered_put_other, all_at}
 use Rattle.claim_model.proofs.Options.{map_some, then_some, same_some}
 use Rattle.claim_model.proofs.Tests.{bytes_self, payer_self}
 use Rattle.claim_model.proofs.Sound.{id_at, SoundPacket, Sound}
-use Rattle.claim_model.proofs.Decided.{Origin, From, Row_of, Fixed as Rejected_for_good, row_there, origin, decided_unrouted, decided_routed, rejection_spells, row_spells}
+use Rattle.claim_model.proofs.Decided.{Origin, From, Row_of, Fixed as Rejected_for_good, row_there, origin, decided_unrouted, decided_routed}
 use Rattle.claim_model.proofs.Journals.{entry_added, entry_settled, submitted_enters, ticked_same, started_same, ruled_same, heard_settles}
 use Rattle.claim_model.proofs.PharmacyStep.{carries_reads}
 use Rattle.claim_model.proofs.SwitchStep.{response_says}
-use Rattle.claim_model.proofs.PayerStep.{Rows, Known, New, Ruled_on, answered_ruled, new_row_written}
 use Rattle.claim_model.proofs.Held.{held_decided, book_sound}
 use Rattle.claim_model.proofs.GoingOn.{run_append}
 use Rattle.claim_model.proofs.Runs.{run_sound, reached_sound}
-use Rattle.crash_safety.specs.Network.{Process, file, replayed, Network, Move, beginning, after, network}
+use Rattle.crash_safety.specs.Network.{Process, file, replayed, Network, Move, beginning, network}
 use Rattle.crash_safety.specs.Runs.{IsAmong, on_disks, in_files}
 use Rattle.crash_safety.specs.Kept.{Holds}
 use Rattle.crash_safety.specs.Steps.{replayed_from}
 use Rattle.crash_safety.specs.Diskless.{light}
-use Rattle.crash_safety.specs.Told.{IsTold, ComesAgain, From_row, Fixed, IsFinal, ToldForGood, ToldForGoodHere, IsAsked, rerouted, bad_bins}
+use Rattle.crash_safety.specs.Told.{IsTold, ComesAgain, From_row, Fixed, IsFinal, ToldForGood, ToldForGoodHere}
 use Rattle.crash_safety.proofs.Sound.{Comes, IsSound, begins_soundly}
 use Rattle.crash_safety.proofs.Moving.{goes_on}
 use Rattle.crash_safety.proofs.Closing.{replays_on}
@@ -333,69 +330,3 @@ told_for_good_here = λ ctx s moves more id a w laws accepts told h.
       answer = told.answer;
     } in
     told_for_good ctx s b.first b.second id a w laws accepts there (holds ctx s (light ctx s (moves ++ more)) (network ctx s (b.first ++ b.second)) w b.later h)
-
--- ---- routes that grow
-
--- other routes read the same
-pub reads_same : (ctx : Context) (route : ℕ → RouteKey → Option ℕ) (text : List ℕ) → readable (rerouted ctx route) text ≡ readable ctx text
-unfolding readable
-reads_same ctx route text = refl
-
-decided_by_same : (ctx : Context) (route : ℕ → RouteKey → Option ℕ) (w : World) (id : TxnId) (h : RequestHeader) (payer : ℕ) → decided_by (rerouted ctx route) w id h (Some payer) ≡ decided_by ctx w id h (Some payer)
-unfolding readable
-decided_by_same ctx route w id h payer = refl
-
-decided_is : (ctx : Context) (w : World) (id : TxnId) (request : List ℕ) (h : RequestHeader) → submitted_under w id ≡ Some request → readable ctx request ≡ Some h → decided ctx w id ≡ decided_by ctx w id h (payer_for ctx id h)
-unfolding decided
-decided_is ctx w id request h asks reads =
-    ap (λ (o : Option (List ℕ)). decided_for ctx w id (option_and_then (readable ctx) o)) asks ∙ ap (decided_for ctx w id) reads
-
-pub answers_outlive : (ctx : Context) (route : ℕ → RouteKey → Option ℕ) (w : World) (id : TxnId) (request a : List ℕ) (h : RequestHeader) (payer : ℕ) → IsAsked ctx w id request h → payer_for ctx id h ≡ Some payer
-    → route id.number (route_key h) ≡ Some payer → decided ctx w id ≡ Some a → decided (rerouted ctx route) w id ≡ Some a
-answers_outlive ctx route w id request a h payer x old new d =
-    let wider = rerouted ctx route in
-    decided_is wider w id request h x.submitted (reads_same ctx route request ∙ x.reads)
-    ∙ (ap (decided_by wider w id h) new
-    ∙ (decided_by_same ctx route w id h payer
-    ∙ (sym (ap (decided_by ctx w id h) old)
-    ∙ (sym (decided_is ctx w id request h x.submitted x.reads) ∙ d))))
-
-pub rejections_outlive : (ctx : Context) (route : ℕ → RouteKey → Option ℕ) (w : World) (id : TxnId) (request : List ℕ) (h : RequestHeader) → IsAsked ctx w id request h → payer_for ctx id h ≡ None
-    → route id.number (route_key h) ≡ None → decided (rerouted ctx route) w id ≡ Some (rejection ctx h)
-rejections_outlive ctx route w id request h x old new =
-    let wider = rerouted ctx route in
-    decided_is wider w id request h x.submitted (reads_same ctx route request ∙ x.reads) ∙ ap (decided_by wider w id h) new
-
-pub rejections_undone : (ctx : Context) (route : ℕ → RouteKey → Option ℕ) (w : World) (id : TxnId) (request : List ℕ) (h : RequestHeader) (payer : ℕ) → IsAsked ctx w id request h → payer_for ctx id h ≡ None
-    → route id.number (route_key h) ≡ Some payer → row_at w payer id ≡ None → (decided ctx w id ≡ Some (rejection ctx h)) × (decided (rerouted ctx route) w id ≡ None)
-rejections_undone ctx route w id request h payer x old new none =
-    let wider = rerouted ctx route in (
-      decided_unrouted ctx w id request h x.submitted x.reads old,
-      decided_is wider w id request h x.submitted (reads_same ctx route request ∙ x.reads)
-          ∙ (ap (decided_by wider w id h) new ∙ ap (λ (o : Option Row). option_and_then (row_answer wider) o) none),
-    )
-
--- two texts with other rulings are other texts
-other_rulings : (ctx : Context) (h g : RequestHeader) (rs qs : List Ruling) (x y : List ℕ) → Spells ctx h rs x → Spells ctx g qs y → x ≡ y → rs ≡ qs
-other_rulings ctx h g rs qs x y a b e =
-    let same : a.answer ≡ b.answer = same_some a.answer b.answer (sym a.reads ∙ (ap ctx.read_answer e ∙ b.reads)) in
-    sym a.rulings_are ∙ (ap (λ (z : Answer). z.rulings) same ∙ b.rulings_are)
-
-new_answer : (ctx : Context) (s : WorldSettings) (w : World) (id : TxnId) (request : List ℕ) (h : RequestHeader) (b : Book) (advice : Advice) (a : Answered) → AdvisesWell advice.rulings → Reached ctx s w → readable ctx request ≡ Some h → row_of id b.rows ≡ None → book_at w b.payer ≡ Some b
-    → (r : Ruled_on ctx b advice id request a) → Rows ctx b advice id request r.header a → ((new_row ctx b advice id request).rulings ≡ bad_bins h → ⊥) → a.bytes ≡ rejection ctx h → ⊥
-new_answer ctx s w id request h b advice a well reached reads none at r (Known row found same book text) other e = let wrong : ◌≡◌ {A = Option Row} None (Some row) = sym none ∙ found in absurd cc
-new_answer ctx s w id request h b advice a well reached reads none at r (New fresh fits advised book text) other e =
-    let row = new_row ctx b advice id request in
-    let sb = book_sound ctx s w b.payer b (reached_sound ctx s w reached) at in
-    let written = new_row_written ctx s w b.payer b advice id request r.header well reached.laws reached.accepts sb r.reads fits in
-    let spells = row_spells ctx request r.header row reached.laws r.reads written.0 written.1 in
-    let fixed = rejection_spells ctx request h reached.laws reads in
-    other (other_rulings ctx r.header h row.rulings (bad_bins h) (answer_text ctx r.header row) (rejection ctx h) spells fixed (sym text ∙ e))
-
-pub another_answer : (ctx : Context) (s : WorldSettings) (route : ℕ → RouteKey → Option ℕ) (w : World) (id : TxnId) (request : List ℕ) (h : RequestHeader) (b : Book) (advice : Advice) (a : Answered) → AdvisesWell advice.rulings → Reached (rerouted ctx route) s w
-    → IsAsked ctx w id request h → row_of id b.rows ≡ None → book_at w b.payer ≡ Some b → answered (rerouted ctx route) b advice id request ≡ Ok a
-    → ((new_row (rerouted ctx route) b advice id request).rulings ≡ bad_bins h → ⊥) → a.bytes ≡ rejection ctx h → ⊥
-another_answer ctx s route w id request h b advice a well reached x none at is other e =
-    let wider = rerouted ctx route in
-    let r = answered_ruled wider b advice id request a is in
-    new_answer wider s w id request h b advice a well reached (reads_same ctx route request ∙ x.reads) none at r r.rows other e

@@ -11,7 +11,7 @@ use Rattle.claim_model.specs.Node.{Node, Pharmacy, Switch, Payer, Up, AtRest, Se
 use Rattle.claim_model.specs.World.{World, Packet, Event, Delivery, Stopping, Starting, packet_from, step, world_after, run}
 use Rattle.claim_model.specs.Settings.{WorldSettings, opening}
 use Rattle.claim_model.specs.Nodes.{AnyNode, OfSwitch, as_node, node_step, node_at, called, Asked, taking, asked, asked_step}
-use Rattle.claim_model.specs.Interleavings.{AllAccepted, IsDone}
+use Rattle.claim_model.specs.Interleavings.{AllAccepted}
 use Rattle.claim_model.specs.Local.{Follows}
 use Rattle.claim_model.specs.Promises.{Reached}
 use Rattle.claim_model.proofs.Options.{same_some}
@@ -21,6 +21,7 @@ use Rattle.claim_model.proofs.GoingOn.{run_append}
 use Rattle.claim_model.proofs.PharmacyStep.{done_same}
 use Rattle.crash_safety.specs.Runs.{IsAmong}
 use Rattle.crash_safety.specs.Explained.{Turn, packet, turns_at, turns_by, outside, Goes}
+use Rattle.crash_safety.proofs.Moving.{is_done}
 use Rattle.crash_safety.proofs.Lighter.{among_left, among_right}
 use Rattle.crash_safety.proofs.Caps.{empty_switch}
 
@@ -53,9 +54,6 @@ reached_on ctx s w v event sent r steps = record {
   leads = run_append ctx (opening s) r.events (event ∷ []) ∙ (ap (λ (x : World). run ctx x (event ∷ [])) r.leads ∙ ap (world_after w) steps);
 }
 
-is_done : (o : Outcome World) (v : World) (sent : List Sent) → o ≡ Done v sent → IsDone o
-is_done o v sent e = subst IsDone (sym e) tt
-
 -- a call in front of a run
 pub goes_back : (ctx : Context) (w v : World) (event : Event) (node : Node) (call : Call) (sent : List Sent) (turns : List Turn) → asked w.packets event ≡ Some (record { node = node; call = call }) → step ctx w event ≡ Done v sent
     → Goes ctx v turns → Goes ctx w (turns_at node call sent ++ turns)
@@ -73,9 +71,6 @@ pub record Way (ctx : Context) (s : WorldSettings) (w v : World) (m : ℕ) : Typ
   pub back : (turns : List Turn) → Goes ctx v turns → Goes ctx w turns
   pub others : (node : Node) → (node ≡ Switch m → ⊥) → node_at v node ≡ node_at w node
   pub grows : (p : Packet) → IsAmong w.packets p → IsAmong v.packets p
-
-pub no_way : (ctx : Context) (s : WorldSettings) (w : World) (m : ℕ) → Reached ctx s w → Way ctx s w w m
-no_way ctx s w m r = record { reached = r; back = λ turns g. g; others = λ node d. refl; grows = λ p a. a }
 
 way_then : (ctx : Context) (s : WorldSettings) (w v u : World) (m : ℕ) → Way ctx s w v m → Way ctx s v u m → Way ctx s w u m
 way_then ctx s w v u m a b = record {

@@ -1,5 +1,5 @@
 -- Deed by deed.
-use Rattle.crash_safety.proofs.Candidates.{candidate_replays}
+use Rattle.crash_safety.proofs.Streams.{candidate_replays}
 use Rattle.crash_safety.proofs.fences.candidates_are_replays.Goals as goal
 
 pub returns : goal.returns

@@ -1,5 +1,5 @@
 -- Of one run at two moments.
-use Rattle.crash_safety.proofs.Handed.{one_answer_whatever, stays_whatever, told_whatever}
+use Rattle.crash_safety.proofs.WhateverSwitches.{one_answer_whatever, stays_whatever, told_whatever}
 use Rattle.crash_safety.proofs.handing.answers_whatever_switches_are.Goals as goal
 
 pub returns-clause-one_answer : goal.returns-clause-one_answer

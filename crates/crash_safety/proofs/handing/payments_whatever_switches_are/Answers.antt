@@ -1,5 +1,5 @@
 -- Of the run that the order is.
-use Rattle.crash_safety.proofs.Handed.{one_standing_whatever, reversed_whatever, counted_whatever, in_full_whatever}
+use Rattle.crash_safety.proofs.WhateverSwitches.{one_standing_whatever, reversed_whatever, counted_whatever, in_full_whatever}
 use Rattle.crash_safety.proofs.handing.payments_whatever_switches_are.Goals as goal
 
 pub returns-clause-one_standing : goal.returns-clause-one_standing

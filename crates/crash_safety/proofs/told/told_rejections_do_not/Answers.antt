@@ -1,5 +1,5 @@
 -- A route that is new, and a payer that rules.
-use Rattle.crash_safety.proofs.Telling.{rejections_undone, another_answer}
+use Rattle.crash_safety.proofs.Rerouted.{rejections_undone, another_answer}
 use Rattle.crash_safety.proofs.told.told_rejections_do_not.Goals as goal
 
 pub returns-clause-undecided : goal.returns-clause-undecided
