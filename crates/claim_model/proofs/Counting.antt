@@ -1,13 +1,13 @@
 -- A counted payment stands, or was reversed at a request of its own pharmacy that is still open.
 use Rattle.std.proofs.Common.{◌≡◌, ℕ, zero, suc, ◌+◌, Bool, true, false, not, cond, List, [], ◌∷◌, ◌++◌, replicate, Option, Some, None, Result, Ok, Err, slice_get, refl, sym, ap, ◌∙◌, subst, ◌⊎◌, inl, inr, arith}
-use Rattle.std.specs.Prelude.{option_map, option_and_then, filter, filter_map, ⊤}
+use Rattle.std.specs.Prelude.{option_map, option_and_then, filter, filter_map}
 use Rattle.std.specs.List.{AllByRecursion, list_any, cons_option}
-use Rattle.std.proofs.lemmas.Bool.{both_ways, not-true, or_from, or_left, or_right}
+use Rattle.std.proofs.lemmas.Bool.{both_ways, not-true, or_left, or_right}
 use mathlib.Core.Path.{ap₂}
 use Rattle.claim_model.specs.Words.{TxnId, Auth, Fill, Claim, Order, Bills, Reverses, Code, BadBin, Ruling, Paid, Duplicate, Reversed, Rejected, RequestHeader}
 use Rattle.claim_model.specs.Context.{Context}
 use Rattle.claim_model.specs.Laws.{Laws, IsClaimOf, IsOrderOf, Spells}
-use Rattle.claim_model.specs.Readable.{readable, payer_for, rulings_in, reversal_code}
+use Rattle.claim_model.specs.Readable.{readable, rulings_in}
 use Rattle.claim_model.specs.Numbered.{numbered}
 use Rattle.claim_model.specs.Ruled.{Ruled, ruled_from, ruled_groups}
 use Rattle.claim_model.specs.Payments.{Payment, same_auth, auth_reversed, is_auth, reverses, payments, payment_of}

@@ -1,6 +1,6 @@
 -- What calls make of a journal, seen without its phases: nothing, one more entry, or an answer at an open one.
 use Rattle.std.proofs.Common.{◌≡◌, ℕ, zero, suc, ◌+◌, ◌%◌, ◌<◌, Bool, true, false, not, ◌&&◌, ◌==◌, cond, List, [], ◌∷◌, ◌++◌, map, length, Option, Some, None, Result, Ok, Err, slice_get, slice_set, refl, sym, ap, ◌∙◌, subst, arith, append_assoc, length-append, ltb-true}
-use Rattle.std.specs.Prelude.{nat_lt, nat_le, bytes_eq}
+use Rattle.std.specs.Prelude.{bytes_eq}
 use Rattle.std.specs.List.{AllByRecursion}
 use Rattle.std.proofs.lemmas.List.{map_push}
 use mathlib.Core.Path.{ap₂}

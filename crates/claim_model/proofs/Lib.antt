@@ -1,5 +1,6 @@
 mod Small
 mod Schedules
+mod Alone
 pub mod Lists
 pub mod Tests
 pub mod Journals

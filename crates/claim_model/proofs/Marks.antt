@@ -8,7 +8,7 @@ use Rattle.claim_model.specs.Words.{TxnId, Auth, Order, Bills, Reverses, Code, R
 use Rattle.claim_model.specs.Numbered.{numbered}
 use Rattle.claim_model.specs.Ruled.{Ruled}
 use Rattle.claim_model.specs.Payments.{Payment, same_auth, reverses, reversed_by, payment_by, payment_at, payments, is_standing, payment_of}
-use Rattle.claim_model.proofs.Lists.{find_cases, all_append}
+use Rattle.claim_model.proofs.Lists.{all_append}
 
 -- with one more ruling after
 abbrev pub marked_by : Ruled → Auth → Option TxnId → Option TxnId

@@ -17,7 +17,7 @@ use Rattle.claim_model.specs.World.{World}
 use Rattle.claim_model.specs.Settings.{WorldSettings, Accepts}
 use Rattle.claim_model.specs.Held.{book_in, asked, row_at, decided}
 use Rattle.claim_model.specs.Carried.{Carries, IsVouched}
-use Rattle.claim_model.proofs.Lists.{numbered_put, find_append, find_beyond, find_passes, all_append, all_map, all_weaker}
+use Rattle.claim_model.proofs.Lists.{numbered_put, find_append, find_beyond, all_append, all_weaker}
 use Rattle.claim_model.proofs.Options.{same_some, same_ok, cond_ok}
 use Rattle.claim_model.proofs.Tests.{bytes_same, id_self, payer_same}
 use Rattle.claim_model.proofs.Given.{payer_given}

@@ -9,7 +9,7 @@ use Rattle.claim_model.specs.Readable.{request_envelope}
 use Rattle.claim_model.specs.Refusal.{Refusal, BadRule}
 use Rattle.claim_model.specs.Numbered.{numbered, renumbered}
 use Rattle.claim_model.specs.Journal.{RetryRule, Journal, JournalAtRest, Kept, Sending, Submitted, submitted, ticked, due, heard, stopped, started, kept_entry, is_rule, with_rule, ruled_anew}
-use Rattle.claim_model.specs.Node.{Node, Power, Up, AtRest, Sent, Call, Submit, Tick, Take, Stop, Start, Revise, OfPlan, OfRule, OfCap, Adjudicate, Outcome, Done, Refused, to_switch, after_submit, after_hearing, pharmacy_takes, pharmacy_step}
+use Rattle.claim_model.specs.Node.{Node, Power, Up, AtRest, Sent, Call, Submit, Tick, Take, Stop, Start, Revise, OfPlan, OfRule, OfCap, Adjudicate, Done, Refused, to_switch, after_submit, after_hearing, pharmacy_takes, pharmacy_step}
 use Rattle.claim_model.specs.World.{World, packet_from}
 use Rattle.claim_model.specs.Limits.{most_entries}
 use Rattle.claim_model.specs.Settings.{WorldSettings, Accepts}

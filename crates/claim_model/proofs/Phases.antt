@@ -4,7 +4,7 @@ use Rattle.std.specs.Prelude.{⊤, ◌⊎◌, nat_le}
 use Rattle.std.specs.List.{AllByRecursion, list_all}
 use Rattle.std.proofs.Math.Nat.{div-lt_iff_lt-mul, mod-lt, mul_comm, mul-pos, div-zero, zero-mul}
 use Rattle.std.proofs.lemmas.Option.{get_or_from_slice_get}
-use Rattle.std.proofs.lemmas.Bool.{and_parts, not-false, not-true}
+use Rattle.std.proofs.lemmas.Bool.{and_parts, not-false}
 use Rattle.claim_model.specs.Context.{Context}
 use Rattle.claim_model.specs.Numbered.{numbered, renumbered}
 use Rattle.claim_model.specs.Journal.{PharmacySettings, RetryRule, opening_rule, State, Waits, Has, Entry, Journal, JournalAtRest, Kept, Sending, circle, switch_at, sending, ticked_state, ticked, due_by, due_from, due, started_state, started, is_rounds, have_switches, most_nodes, is_rule}

@@ -18,7 +18,8 @@ use Rattle.claim_model.specs.World.{World, Submission, Ticking, Delivery, step, 
 use Rattle.claim_model.specs.Settings.{WorldSettings, PayerSettings, NoNode, SameProvider, settings_fault, opening}
 use Rattle.claim_model.specs.Held.{journal_at, book_at, held}
 use Rattle.claim_model.proofs.Small.{small}
-use Rattle.claim_model.proofs.Schedules.{pharmacy, one, refusals_by, c1, v1, auth_1, id, briefs, auths, a1}
+use Rattle.claim_model.proofs.Schedules.{pharmacy, one, refusals_by, c1, v1, auth_1, id, briefs, auths}
+use Rattle.claim_model.proofs.Alone.{a1}
 
 abbrev pub a_payer : PayerSettings
 a_payer = record { book = record { serial = 1; cap = 1000; asks = false; reversals = false; carries = false }; plan = record { fee = 150; copay = 1000; prices = [] } }

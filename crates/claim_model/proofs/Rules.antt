@@ -1,11 +1,11 @@
 -- By which rule of retries a pharmacy goes after a call: by that of before, or by one that it took.
-use Rattle.std.proofs.Common.{◌≡◌, true, List, [], map, Result, Ok, Err, refl, sym, ap, subst, inl, inr}
+use Rattle.std.proofs.Common.{◌≡◌, true, List, [], map, Result, Ok, Err, refl, sym, subst, inl, inr}
 use Rattle.claim_model.specs.Words.{Envelope, EnvelopeFault}
 use Rattle.claim_model.specs.Context.{Context}
-use Rattle.claim_model.specs.Journal.{RetryRule, opening_rule, Journal, JournalAtRest, State, Has, submitted, ticked, due, heard, stopped, started, is_rule, with_rule, ruled_anew}
+use Rattle.claim_model.specs.Journal.{Journal, JournalAtRest, submitted, ticked, due, heard, stopped, started, is_rule, ruled_anew}
 use Rattle.claim_model.specs.Node.{Power, Up, AtRest, Sent, Call, Submit, Tick, Take, Stop, Start, Revise, OfPlan, OfRule, OfCap, Adjudicate, Done, to_switch, pharmacy_takes, pharmacy_step}
 use Rattle.claim_model.specs.Held.{journal_in}
-use Rattle.claim_model.proofs.Journals.{entered_journal, settled_journal, submitted_is, heard_is, ticked_same, started_same, ruled_same}
+use Rattle.claim_model.proofs.Journals.{submitted_is, heard_is, ticked_same, started_same, ruled_same}
 use Rattle.claim_model.proofs.PharmacyStep.{done_same, rule_taken, after_submit_done, after_hearing_done}
 use Rattle.claim_model.proofs.Phases.{HasRule}
 
