@@ -12,6 +12,7 @@ ghost use Rattle.claim_model.specs.Advised.{EntersAdvised};
 /// duplicate alike, since a system that is asked again after a crash says a duplicate; and only of the claim's own prescription.
 /// A payment is taken back by its reversal, where the payer does not ask about reversals; where it does, as the advice says of
 /// the reversal's own prescription: taken back, or rejected with its codes.
+#[tactic(auto, using(crate::proofs::Advising::enters_advised))]
 pub fn asking_payers_rule_as_advised()
     ensures { (ctx : Context) (b : Book) (advice : Advice) (id : TxnId) (request : List ℕ) (a : Answered)
         → b.settings.asks ≡ true → row_of id b.rows ≡ None → answered ctx b advice id request ≡ Ok a
@@ -19,6 +20,7 @@ pub fn asking_payers_rule_as_advised()
 {}
 
 /// A payer that does not ask rules by its plan, whatever an advice says.
+#[tactic(auto, using(crate::proofs::Advising::asks_nobody))]
 pub fn other_payers_ask_nobody()
     ensures { (ctx : Context) (b : Book) (advice : Advice) (id : TxnId) (request : List ℕ)
         → b.settings.asks ≡ false → answered ctx b advice id request ≡ answered ctx b unadvised id request }

@@ -30,6 +30,7 @@ pub fn one_answer()
 {}
 
 /// What a journal or a book had decided stays decided, whatever events come.
+#[tactic(auto, using(crate::proofs::Stays::stays_decided))]
 pub fn decisions_stay()
     ensures { (ctx : Context) (w : World) (events : List Event) → StaysDecided w (run ctx w events) }
 {}

@@ -41,12 +41,14 @@ pub fn routes_lead_to_payers()
 }
 
 /// The requests that the model takes are those that the reader of the profile takes.
+#[tactic(auto, using(crate::proofs::BytesLaws::readable_alike))]
 pub fn readable_requests()
     ensures { (routes : RouteMaps) (text : List ℕ) → readable (bytes_with routes) text ≡ readable_header text }
 {}
 
 /// What a readable request asks for: an order of its header, or one to five reject codes, for each of its
 /// transactions; and what a plan pays for such a claim can be written.
+#[tactic(auto, using(crate::proofs::BytesLaws::groups_counted, crate::proofs::BytesLaws::orders_are, crate::proofs::BytesLaws::prices_fit))]
 pub fn orders_of_requests()
     ensures groups { (routes : RouteMaps) (text : List ℕ) (h : RequestHeader)
         → readable (bytes_with routes) text ≡ Some h → length ((bytes_with routes).orders text) ≡ h.count }
@@ -60,6 +62,7 @@ pub fn orders_of_requests()
 }
 
 /// What bytes are as an envelope, or what is wrong with them, does not hang on their place in memory.
+#[tactic(auto, using(crate::proofs::Placeless::envelope_alike))]
 pub fn envelopes_know_no_place()
     ensures same { (p q : ℕ × ℕ) (bytes : List ℕ) → envelope_in (envelope_of p bytes)
         ≡ envelope_in (envelope_of q bytes) }

@@ -10,6 +10,7 @@ ghost use Rattle.claim_model.specs.Logs.{NodeLog, log_in};
 ghost use Rattle.claim_model.specs.Interleavings.{Begins, GoesOn, IsInterleaving, IsBegun, NextCall, IsLogOf, SameNodes};
 
 /// Where the logs of a run are how the logs of another run begin, some node can make the next call of its own, or all are made.
+#[tactic(auto, using(crate::proofs::Walking::goes_on))]
 pub fn enabled_calls_lead_on()
     ensures { (ctx : Context) (w : World) (events made : List Event)
         → ((node : Node) → Begins (log_in ctx w made node) (log_in ctx w events node)) → GoesOn ctx w events made }
@@ -18,6 +19,7 @@ pub fn enabled_calls_lead_on()
 /// Where logs have a legal interleaving, a run that is begun along them is one itself, or the next call of one of them is
 /// enabled. So one enabled call after another finds an interleaving, whichever is taken; and where none is enabled and calls
 /// are left, there is none.
+#[tactic(auto, using(crate::proofs::Finding::found))]
 pub fn interleavings_are_found()
     ensures { (ctx : Context) (settings : WorldSettings) (logs : List NodeLog) (events made : List Event)
         → IsInterleaving ctx settings logs events → IsBegun ctx settings logs made
@@ -25,12 +27,14 @@ pub fn interleavings_are_found()
 {}
 
 /// Each log of an interleaving is made by its node alone, and tells what the node is at the end and all that it sent.
+#[tactic(auto, using(crate::proofs::Finding::are_logs))]
 pub fn logs_of_interleavings()
     ensures { (ctx : Context) (settings : WorldSettings) (logs : List NodeLog) (events : List Event)
         → IsInterleaving ctx settings logs events → AllByRecursion (IsLogOf ctx settings events) logs }
 {}
 
 /// All interleavings of the same logs end with the same nodes, and with the same packets of each sender in the same order.
+#[tactic(auto, using(crate::proofs::Finding::agree))]
 pub fn interleavings_agree()
     ensures { (ctx : Context) (settings : WorldSettings) (logs : List NodeLog) (events others : List Event)
         → IsInterleaving ctx settings logs events → IsInterleaving ctx settings logs others

@@ -10,6 +10,7 @@ ghost use Rattle.claim_model.specs.Logs.{logged_by};
 ghost use Rattle.claim_model.specs.Local.{IsLocal, StaysEnabled};
 
 /// A node's step in a world depends on that node alone, and changes no other.
+#[tactic(auto, using(crate::proofs::Steps::local, crate::proofs::Steps::step_asked))]
 pub fn calls_are_local()
     ensures calls { (ctx : Context) (w : World) (node : Node) (call : Call) → IsLocal ctx w node call }
     // An event is the one call that it asks for.
@@ -19,6 +20,7 @@ pub fn calls_are_local()
 
 /// Two packets with the same sender, addressee and bytes serve alike: delivered, either leads to the same world with the
 /// same packets, and adds the same to each log; and so do they with one advice.
+#[tactic(auto, using(crate::proofs::Serving::delivers_alike, crate::proofs::Serving::logs_alike, crate::proofs::Serving::adjudicates_alike, crate::proofs::Serving::adjudications_logged_alike))]
 pub fn equal_packets_serve_alike()
     ensures step { (ctx : Context) (w : World) (j k : ℕ) → numbered w.packets j ≡ numbered w.packets k
         → step ctx w (Delivery j) ≡ step ctx w (Delivery k) }

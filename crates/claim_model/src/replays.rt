@@ -19,11 +19,13 @@ pub fn logs_replay()
 {}
 
 /// The packets of a run are, node for node and in order, those that stood there and those that the node's log sent.
+#[tactic(auto, using(crate::proofs::Posting::are_posted))]
 pub fn logs_are_posted()
     ensures { (ctx : Context) (w : World) (events : List Event) (node : Node) → ArePosted ctx w events node }
 {}
 
 /// Runs and logs go on: what is true of a list of events and of the list after it is true of both as one.
+#[tactic(auto, using(crate::proofs::GoingOn::run_append, crate::proofs::GoingOn::log_append, crate::proofs::GoingOn::accepted_append))]
 pub fn logs_go_on()
     ensures runs { (ctx : Context) (w : World) (events more : List Event)
         → run ctx w (events ++ more) ≡ run ctx (run ctx w events) more }
@@ -35,6 +37,7 @@ pub fn logs_go_on()
 
 /// Where a node makes its log by itself, each call of the log is accepted and sends what the log says as soon as an event asks
 /// for it and the calls before it are made. So of a log that is replayed once, only the order of its deliveries is open.
+#[tactic(auto, using(crate::proofs::GoingOn::asked_accepted))]
 pub fn asked_calls_are_accepted()
     ensures { (ctx : Context) (w : World) (made : List Event) (node : Node) (before : AnyNode) (next : Logged)
         (more : List Logged) (event : Event)
