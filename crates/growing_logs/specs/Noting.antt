@@ -2,7 +2,7 @@
 use Rattle.std.specs.Prelude.{ℕ, zero, suc, Bool, ◌==◌, List, [], map, slice_index, slice_get}
 use Rattle.std.specs.Borrow.{Bor}
 use Rattle.std.specs.Option.{option_map_or}
-use Rattle.node_process.specs.Noting.{Note}
+use Rattle.call_notes.specs.Notes.{Note}
 use Rattle.replaced_files.specs.Deeds.{Deed, Failed, Taken, Copied, Exchanged, SyncedNames}
 
 abbrev pub deed_of_kind : ℕ → Bool → ℕ → List ℕ → Deed

@@ -5,8 +5,9 @@ ghost use Rattle.replaced_files.specs.Deeds.{Failed};
 ghost use Rattle.growing_logs.specs.Noting.{deeds_of};
 
 use crate::reading::name_at;
+use call_notes::Noted;
 use log_turning::check_regular;
-use node_process::{Noted, sync_folder};
+use node_process::sync_folder;
 use replaced_files::Files;
 use std::fs::{File, OpenOptions, TryLockError};
 use std::io::{ErrorKind, Write};
@@ -121,25 +122,17 @@ impl<'a> Files for Disk<'a> {
 
     fn copy(&mut self, place: usize, bytes: &[u8]) -> io::Result<()> {
         let answer = self.write_copy(place, bytes);
-        self.noted
-            .note(&[COPIED, u64::from(answer.is_ok()), place as u64], bytes);
-        answer
+        self.noted.answered(COPIED, place as u64, bytes, answer)
     }
 
     fn exchange(&mut self, place: usize) -> io::Result<()> {
         let answer = self.rename_copy(place);
-        self.noted
-            .note(&[EXCHANGED, u64::from(answer.is_ok()), place as u64], &[]);
-        answer
+        self.noted.answered(EXCHANGED, place as u64, &[], answer)
     }
 
     fn sync_names(&mut self, place: usize) -> io::Result<()> {
         let answer = self.sync_folder_of(place);
-        self.noted.note(
-            &[SYNCED_NAMES, u64::from(answer.is_ok()), place as u64],
-            &[],
-        );
-        answer
+        self.noted.answered(SYNCED_NAMES, place as u64, &[], answer)
     }
 }
 

@@ -4,8 +4,8 @@ ghost use Rattle.std.specs.Prelude.{◌≡◌, [], false, IfOk, string_bytes};
 ghost use Rattle.growing_logs.specs.Noting.{found_in, name_in};
 
 use crate::logs::Logs;
+use call_notes::Noted;
 use log_turning::{OneLog, Reach, WholeFault, read_logs};
-use node_process::Noted;
 use std::alloc::{AllocError, Global};
 
 /// The logs in files of these names, under settings that one of two texts spells.

@@ -20,7 +20,6 @@ pub use judging::reasons::{last_reason_is_last, some_reason_is_told};
 pub use judging::{Verdict, judge};
 pub use outgoing::writer_sink::WriterSink;
 pub use outgoing::{Outgoing, TextSink};
-pub use reading::noted::Noted;
 pub use reading::{Audited, GivenLog, opened, read_audited};
 pub use report::{Form, Report, put_report, report_on};
 pub use revisions::tables::Changes;

@@ -1,6 +1,5 @@
 //! What is read before anything is judged: the settings, and the logs.
 
-pub(crate) mod noted;
 pub(crate) mod referring;
 
 ghost use Rattle.std.specs.Prelude.{◌≡◌, ◌++◌, ◌∷◌, [], length, map, Some, None, Ok, IfOk, IfErr, OnOk};

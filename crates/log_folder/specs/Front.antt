@@ -1,7 +1,7 @@
 -- What stands before the log in its file, as it was read.
 use Rattle.std.specs.Prelude.{◌≡◌, ℕ, zero, suc, ◌==◌, Bool, true, false, cond, List, [], ◌∷◌, ◌++◌, length, map, slice_index, Option, Some, None}
 use Rattle.std.specs.Option.{option_map}
-use Rattle.node_process.specs.Noting.{Note}
+use Rattle.call_notes.specs.Notes.{Note}
 use Rattle.log_turning.specs.Files.{size_in}
 use Rattle.log_folder.specs.declared.front.Front.{Front}
 

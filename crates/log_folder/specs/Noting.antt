@@ -1,6 +1,6 @@
 -- Deeds as they are noted: a kind, whether it was done, a number, and bytes.
 use Rattle.std.specs.Prelude.{ℕ, zero, suc, Bool, ◌==◌, List, map, slice_index}
-use Rattle.node_process.specs.Noting.{Note}
+use Rattle.call_notes.specs.Notes.{Note}
 use Rattle.log_folder.specs.Deeds.{Deed, Failed, Marked, Opened, Locked, Named, Found, MadeNext, KeptEnd, Cut, Append, Sync, Linked, SyncNames, Exchanged}
 
 abbrev pub deed_of_kind : ℕ → Bool → ℕ → List ℕ → Deed

@@ -5,8 +5,9 @@ ghost use Rattle.log_folder.specs.Deeds.{Failed};
 ghost use Rattle.log_folder.specs.Noting.{deeds_of};
 
 use crate::folder::Folder;
+use call_notes::Noted;
 use log_turning::{check_regular, closed_name};
-use node_process::{Noted, keep_end, leave_mark, mark_of_failed_sync, sync_folder};
+use node_process::{keep_end, leave_mark, mark_of_failed_sync, sync_folder};
 use std::alloc::Global;
 use std::fs::{File, OpenOptions, TryLockError};
 use std::io::{ErrorKind, Read, Seek, SeekFrom, Write};
@@ -94,7 +95,7 @@ impl<'a> Disk<'a> {
         self.open_as(options)
     }
 
-    /// Opens the file.
+    /// Opens the file, and notes nothing: who calls it does.
     pub(crate) fn open_as(&mut self, options: &OpenOptions) -> io::Result<()>
         ensures { self.new.noted ≡ self.old.noted }
     {

@@ -3,8 +3,8 @@
 ghost use Rattle.std.specs.Prelude.{◌≡◌, ◌∷◌, [], is_ok, IfOk, OnErr};
 ghost use Rattle.log_folder.specs.Front.{HasFailed, IsFront, Read, Rewound, Unread, reads_of};
 
+use call_notes::Noted;
 use log_turning::{BEFORE_REST, rest_size};
-use node_process::Noted;
 use std::alloc::Global;
 use std::fs::File;
 use std::io;

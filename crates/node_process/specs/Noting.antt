@@ -1,5 +1,6 @@
 -- Acts as they are noted: a kind, whether it was done, a number, and bytes.
-use Rattle.std.specs.Prelude.{ℕ, zero, suc, Bool, cond, ◌==◌, List, [], ◌∷◌, map, slice_index}
+use Rattle.std.specs.Prelude.{ℕ, zero, suc, cond, ◌==◌, List, map, slice_index}
+use Rattle.call_notes.specs.Notes.{Note}
 use Rattle.node_process.specs.Acts.{Act, Found, Unread, Cut, Append, Sync, Say, Hear, Unheard}
 
 abbrev pub act_of_kind : ℕ → List ℕ → List ℕ → Act
@@ -9,14 +10,6 @@ act_of_kind (suc (suc zero)) numbers bytes = Append bytes (slice_index numbers 1
 act_of_kind (suc (suc (suc zero))) numbers bytes = Sync (slice_index numbers 1 == 1)
 act_of_kind (suc (suc (suc (suc zero)))) numbers bytes = Say bytes (slice_index numbers 1 == 1)
 act_of_kind (suc (suc (suc (suc (suc kind))))) numbers bytes = cond (slice_index numbers 1 == 1) (Hear bytes) Unheard
-
--- numbers and bytes, as they are noted of a call
-abbrev pub Note : Type 0
-Note = List ℕ × List ℕ
-
--- a call of this kind that was done or not
-abbrev pub answered : ℕ → Bool → ℕ → List ℕ → Note
-answered kind done size bytes = (kind ∷ cond done 1 0 ∷ size ∷ [], bytes)
 
 -- the act that a note says
 abbrev pub act_of : Note → Act

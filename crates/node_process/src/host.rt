@@ -4,9 +4,10 @@ ghost use Rattle.std.specs.Prelude.{◌≡◌, []};
 ghost use Rattle.node_process.specs.Noting.{acts_of};
 
 use crate::beside::{keep_all, keep_end, leave_mark};
+use crate::kinds::{APPENDED, CUT, FOUND, SYNCED};
 use crate::machine::Machine;
-use crate::noted::{APPENDED, CUT, FOUND, Noted, SYNCED};
 use crate::streams::{hear, say};
+use call_notes::Noted;
 use std::alloc::Global;
 use std::fs::File;
 use std::io::{ErrorKind, Read, Write};

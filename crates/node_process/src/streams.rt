@@ -5,7 +5,8 @@ ghost use Rattle.std.specs.Io.KnownBytes.{IsAtEnd};
 ghost use Rattle.node_process.specs.Acts.{Say, Hear, Unheard};
 ghost use Rattle.node_process.specs.Noting.{acts_of};
 
-use crate::noted::{HEARD, Noted, SAID};
+use crate::kinds::{HEARD, SAID};
+use call_notes::Noted;
 use std::io;
 use std::io::{Read, Write};
 

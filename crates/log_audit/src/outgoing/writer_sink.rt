@@ -2,10 +2,11 @@
 
 ghost use Rattle.std.specs.Prelude.{◌≡◌, ◌++◌, ◌≤◌, [], length, is_some, IfOk, OnOk, OnErr};
 ghost use Rattle.std.specs.Io.KnownBytes.{WriteAppends};
+ghost use Rattle.call_notes.specs.Notes.{bytes_in};
 ghost use Rattle.log_audit.specs.Outgoing.{Begins, Passes, TookSome};
 
 use crate::outgoing::TextSink;
-use crate::reading::noted::Noted;
+use call_notes::Noted;
 use std::alloc::AllocError;
 use std::io;
 use std::io::{ErrorKind, Write};
@@ -23,20 +24,21 @@ pub struct WriterSink<W: Write + Drop> {
 
 impl<W: Write + Drop> Model for WriterSink<W> {
     ghost use Rattle.std.specs.Prelude.{◌≡◌, false, is_some};
+    ghost use Rattle.call_notes.specs.Notes.{bytes_in};
     ghost use Rattle.log_audit.specs.Outgoing.{Begins, Passed};
 
     ghost Value = { Passed };
 
     ghost view = { λ s. record {
-      handed = s.handed.bytes;
-      written = s.written.bytes;
+      handed = bytes_in s.handed.notes;
+      written = bytes_in s.written.notes;
       contents = W.contents s.writer;
       failed = is_some s.failure;
     } };
 
     // What the writer took is a beginning of what was handed in, and all of it as long as no call failed.
-    ghost invariant = { λ s. Begins s.written.bytes s.handed.bytes
-        × (is_some s.failure ≡ false → s.written.bytes ≡ s.handed.bytes) };
+    ghost invariant = { λ s. Begins (bytes_in s.written.notes) (bytes_in s.handed.notes)
+        × (is_some s.failure ≡ false → bytes_in s.written.notes ≡ bytes_in s.handed.notes) };
 }
 
 impl<W: Write + Drop> WriterSink<W> {
@@ -88,7 +90,7 @@ impl<W: Write + Drop> TextSink for WriterSink<W> {
             &mut self.failure,
             piece,
         );
-        self.handed.note(piece);
+        self.handed.note_bytes(piece);
         Ok(())
     }
 }
@@ -101,9 +103,9 @@ fn pass_piece<W: Write>(
     failure: &mut Option<io::Error>,
     piece: &[u8],
 )
-    ensures passes { Passes (is_some failure.old) (is_some failure.new) written.old.bytes written.new.bytes piece.now }
+    ensures passes { Passes (is_some failure.old) (is_some failure.new) (bytes_in written.old.notes) (bytes_in written.new.notes) piece.now }
     // What is noted is what the writer took, and a beginning of the piece.
-    ensures took { TookSome (W.contents writer.old) (W.contents writer.new) written.old.bytes written.new.bytes piece.now }
+    ensures took { TookSome (W.contents writer.old) (W.contents writer.new) (bytes_in written.old.notes) (bytes_in written.new.notes) piece.now }
 {
     if failure.is_some() {
         return;
@@ -113,9 +115,9 @@ fn pass_piece<W: Write>(
 
 /// Writes the bytes of a piece, in as many calls as the writer wants, and notes those that it took.
 fn write_piece<W: Write>(writer: &mut W, written: &mut Noted, piece: &[u8]) -> io::Result<()>
-    ensures all { OnOk result (written.new.bytes ≡ written.old.bytes ++ piece.now) }
+    ensures all { OnOk result (bytes_in written.new.notes ≡ bytes_in written.old.notes ++ piece.now) }
     // What is noted is what the writer took, and a beginning of the piece.
-    ensures took { TookSome (W.contents writer.old) (W.contents writer.new) written.old.bytes written.new.bytes piece.now }
+    ensures took { TookSome (W.contents writer.old) (W.contents writer.new) (bytes_in written.old.notes) (bytes_in written.new.notes) piece.now }
 {
     let mut left = piece;
     for _ in 0..u64::MAX {
@@ -124,7 +126,7 @@ fn write_piece<W: Write>(writer: &mut W, written: &mut Noted, piece: &[u8]) -> i
         }
         let count = write_some(writer, left)?;
         let (taken, others) = left.split_at(count);
-        written.note(taken);
+        written.note_bytes(taken);
         left = others;
     }
     Err(io::Error::from(ErrorKind::WriteZero))

@@ -25,12 +25,12 @@ use denote.Triple.Entry.{on_entry}
 use denote.Triple.Spec.{Meets, triple_of}
 use denote.Triple.Table.{entered}
 use denote.Triple.Walked.{says, Stays, stay_ref, walk_of, AllGo, Goes-ref, Walks, ends_at, walked, walk_Meets}
-use Rattle.node_process.specs.declared.noted.Noted.{Noted}
-use Rattle.node_process.specs.contracts.noted.Noted as T
-use Rattle.node_process.specs.contracts.noted.Noted.note.Key.{name as #it}
-use Rattle.node_process.specs.contracts.noted.Noted.note as it
-use Rattle.node_process.proofs.noted.Noted.note.Statement as stated
-use Rattle.node_process.proofs.noted.Noted.note.Code as code
+use Rattle.call_notes.specs.declared.noted.Noted.{Noted}
+use Rattle.call_notes.specs.contracts.noted.Noted as T
+use Rattle.call_notes.specs.contracts.noted.Noted.note.Key.{name as #it}
+use Rattle.call_notes.specs.contracts.noted.Noted.note as it
+use Rattle.call_notes.proofs.noted.Noted.note.Statement as stated
+use Rattle.call_notes.proofs.noted.Noted.note.Code as code
 use denote.Ref.{Bor}
 use denote.Builtin.{u8, u64}
 use denote.Exit.{yes}

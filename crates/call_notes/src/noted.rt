@@ -1,24 +1,11 @@
 //! A list of notes that clauses alone read: it has no bytes in memory.
 
-ghost use Rattle.std.specs.Prelude.{◌≡◌, List, [], ◌∷◌, is_ok};
+ghost use Rattle.std.specs.Prelude.{◌≡◌, List, [], ◌∷◌, ◌++◌, is_ok};
 ghost use Rattle.std.specs.Borrow.{ftrue};
-ghost use Rattle.node_process.specs.Noting.{Note, answered};
+ghost use Rattle.call_notes.specs.Notes.{Note, answered, bytes_in};
 
 use std::io;
 use std::marker::{Model, PhantomData};
-
-/// Kinds of acts, as they are noted.
-pub(crate) const FOUND: u64 = 0;
-
-pub(crate) const CUT: u64 = 1;
-
-pub(crate) const APPENDED: u64 = 2;
-
-pub(crate) const SYNCED: u64 = 3;
-
-pub(crate) const SAID: u64 = 4;
-
-pub(crate) const HEARD: u64 = 5;
 
 /// What was asked of a system so far, the newest first: of each call some numbers, and bytes.
 #[derive(Drop)]
@@ -46,6 +33,13 @@ impl Noted {
         ensures { self.new.notes ≡ (_numbers.now, _bytes.now) ∷ self.old.notes }
     {}
 
+    /// Notes one more call by its bytes alone.
+    pub fn note_bytes(&mut self, bytes: &[u8])
+        ensures { bytes_in self.new.notes ≡ bytes_in self.old.notes ++ bytes.now }
+    {
+        self.note(&[], bytes);
+    }
+
     /// Notes one more call, and hands on what it answered.
     pub fn answered(
         &mut self,
@@ -54,7 +48,8 @@ impl Noted {
         bytes: &[u8],
         answer: io::Result<()>,
     ) -> io::Result<()>
-        ensures { self.new.notes ≡ answered kind (is_ok result) size bytes.now ∷ self.old.notes }
+        ensures noted { self.new.notes ≡ answered kind (is_ok answer) size bytes.now ∷ self.old.notes }
+        ensures same { result ≡ answer }
     {
         self.note(&[kind, u64::from(answer.is_ok()), size], bytes);
         answer

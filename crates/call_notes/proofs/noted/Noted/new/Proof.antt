@@ -21,12 +21,12 @@ use denote.Triple.Entry.{on_entry}
 use denote.Triple.Spec.{Meets, triple_of}
 use denote.Triple.Table.{entered}
 use denote.Triple.Walked.{says, ends_at, walked, walk_Meets}
-use Rattle.node_process.specs.declared.noted.Noted.{Noted}
-use Rattle.node_process.specs.contracts.noted.Noted as T
-use Rattle.node_process.specs.contracts.noted.Noted.new.Key.{name as #it}
-use Rattle.node_process.specs.contracts.noted.Noted.new as it
-use Rattle.node_process.proofs.noted.Noted.new.Statement as stated
-use Rattle.node_process.proofs.noted.Noted.new.Code as code
+use Rattle.call_notes.specs.declared.noted.Noted.{Noted}
+use Rattle.call_notes.specs.contracts.noted.Noted as T
+use Rattle.call_notes.specs.contracts.noted.Noted.new.Key.{name as #it}
+use Rattle.call_notes.specs.contracts.noted.Noted.new as it
+use Rattle.call_notes.proofs.noted.Noted.new.Statement as stated
+use Rattle.call_notes.proofs.noted.Noted.new.Code as code
 
 abbrev v : Val
 v = vstruct (vcons (vstruct vnil) vnil)
