@@ -8,7 +8,7 @@ use Rattle.table_text.specs.declared.layout.Style.{Style}
 use Rattle.table_text.specs.Members.{Row}
 use Rattle.table_text.specs.Rows.{row_text, rows_text}
 use Rattle.log_audit.specs.Lones.{told_of}
-use Rattle.log_audit.proofs.Going.{left_at}
+use Rattle.log_audit.proofs.AppendLoops.{left_at}
 
 pub cons_alike : {A : Type 0} {x y : A} {xs ys : List A} → x ≡ y → xs ≡ ys → (x ∷ xs) ≡ (y ∷ ys)
 cons_alike e es = cc

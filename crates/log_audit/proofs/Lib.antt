@@ -2,23 +2,23 @@ pub mod Joining
 pub mod Running
 pub mod Authorizations
 pub mod Naming
-pub mod Leaving
-pub mod Listing
+pub mod LeftWorlds
+pub mod AnyAndAll
 pub mod LogReading
 mod Refusing
-pub mod Going
+pub mod AppendLoops
 pub mod Counting
-pub mod Telling
-pub mod Making
+pub mod SomeReason
+pub mod Comparing
 pub mod Reasoning
-pub mod Writing
+pub mod RunTexts
 pub mod Commas
-pub mod Taking
-pub mod Passing
+pub mod WriterCalls
+pub mod Pieces
 pub mod LoneNodes
 mod Lookups
 mod LastReason
 mod Pricing
 mod Changing
 mod Ends
-mod Calling
+mod CallRows

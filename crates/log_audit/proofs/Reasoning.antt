@@ -11,7 +11,7 @@ use Rattle.log_audit.specs.Wrongs.{wrong_lines}
 use Rattle.log_audit.specs.Waits.{Progress, waiting_lines, IsWaitingText}
 use Rattle.log_audit.specs.Reasons.{or_else, reasons, IsReasons}
 use Rattle.log_audit.specs.declared.sentences.Manner.{Manner}
-use Rattle.log_audit.proofs.Telling.{or_else_is, or_else_first}
+use Rattle.log_audit.proofs.SomeReason.{or_else_is, or_else_first}
 use Rattle.world_setup.specs.Taken.{routes_in}
 
 -- logs of which no call was made

@@ -61,7 +61,7 @@ pub enum Form {
 ///
 /// # Errors
 /// `OutOfMemory`; `NoLine` where a schedule is asked for and the run has none.
-#[tactic(auto, using(crate::proofs::Writing::put_whole))]
+#[tactic(auto, using(crate::proofs::RunTexts::put_whole))]
 pub fn report_on(alloc: Global, audited: Audited, form: Form) -> Result<Report, AuditFault>
     // It is said that there is a run exactly where some events are a legal interleaving of the logs.
     ensures told { IfOk result (λ report. IsTold audited.settings (logs_seen audited.logs.items) report.legal) }
@@ -79,7 +79,7 @@ pub fn report_on(alloc: Global, audited: Audited, form: Form) -> Result<Report, 
 ///
 /// # Errors
 /// Those of `report_on`.
-#[tactic(auto, using(crate::proofs::Writing::run_put))]
+#[tactic(auto, using(crate::proofs::RunTexts::run_put))]
 pub fn put_report<K: TextSink + Drop>(
     alloc: Global,
     audited: Audited,
@@ -127,7 +127,7 @@ fn wants_world(form: Form) -> bool {
 }
 
 /// Puts the text that is told of this run.
-#[tactic(auto, using(crate::proofs::Writing::made_put, crate::proofs::Writing::text_put))]
+#[tactic(auto, using(crate::proofs::RunTexts::made_put, crate::proofs::RunTexts::text_put))]
 fn put_run<K: TextSink + Drop>(
     alloc: Global,
     audited: Audited,
@@ -160,7 +160,7 @@ fn put_made<K: TextSink + Drop>(
 }
 
 /// Puts the text that says that there is no legal run, and why.
-#[tactic(auto, using(crate::proofs::Writing::made_put))]
+#[tactic(auto, using(crate::proofs::RunTexts::made_put))]
 fn put_no_run<K: TextSink + Drop>(
     alloc: Global,
     audited: &Audited,

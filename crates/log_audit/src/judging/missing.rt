@@ -73,7 +73,7 @@ impl NodeKind {
 }
 
 /// Appends a line on each node of a kind, of which there are this many, that has no log or more than one.
-#[tactic(auto, using(crate::proofs::Going::lacks_more))]
+#[tactic(auto, using(crate::proofs::AppendLoops::lacks_more))]
 fn put_lacks(
     out: &mut Vec<u8>,
     manner: Manner,
@@ -121,7 +121,7 @@ fn put_strangers(
 }
 
 /// Appends a line on a log of a node that is not there.
-#[tactic(auto, using(std::proofs::lemmas::Result::on_ok_weaker, crate::proofs::Telling::told_unless))]
+#[tactic(auto, using(std::proofs::lemmas::Result::on_ok_weaker, crate::proofs::SomeReason::told_unless))]
 fn put_stranger(
     out: &mut Vec<u8>,
     manner: Manner,

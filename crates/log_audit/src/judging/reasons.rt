@@ -42,7 +42,7 @@ fn is_none(text: &[u8]) -> bool
 }
 
 /// Some reason is told.
-#[tactic(auto, using(crate::proofs::Telling::some_reason))]
+#[tactic(auto, using(crate::proofs::SomeReason::some_reason))]
 pub fn some_reason_is_told()
     ensures { SomeReason }
 {}

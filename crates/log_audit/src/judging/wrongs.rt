@@ -282,7 +282,7 @@ fn packet_wrong(number: u64, made: &Sent, kept: &Sent) -> Option<Wrong>
 }
 
 /// How many bytes are the same before the first that differs, or that only one text has.
-#[tactic(auto, using(crate::proofs::Making::common_past))]
+#[tactic(auto, using(crate::proofs::Comparing::common_past))]
 fn common(made: &[u8], kept: &[u8]) -> u64
     ensures { result ≡ common made.now kept.now }
 {

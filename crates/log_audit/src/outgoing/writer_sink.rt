@@ -96,7 +96,7 @@ impl<W: Write + Drop> TextSink for WriterSink<W> {
 }
 
 /// Writes a piece, where no call failed before.
-#[tactic(auto, using(crate::proofs::Taking::takes_none))]
+#[tactic(auto, using(crate::proofs::WriterCalls::takes_none))]
 fn pass_piece<W: Write>(
     writer: &mut W,
     written: &mut Noted,
@@ -133,7 +133,7 @@ fn write_piece<W: Write>(writer: &mut W, written: &mut Noted, piece: &[u8]) -> i
 }
 
 /// Writes some bytes, and says how many: none only where the call was interrupted.
-#[tactic(auto, using(crate::proofs::Taking::fails_with_none))]
+#[tactic(auto, using(crate::proofs::WriterCalls::fails_with_none))]
 fn write_some<W: Write>(writer: &mut W, bytes: &[u8]) -> io::Result<usize>
     ensures within { IfOk result (λ count. count ≤ length bytes.now) }
     ensures bytes { WriteAppends (W.contents writer.old) (W.contents writer.new) result bytes.now }

@@ -21,7 +21,7 @@ use world_core::World;
 use world_setup::{CheckedSettings, Event};
 
 /// Appends the counts of what a run left.
-#[tactic(auto, using(crate::proofs::Leaving::counts_left))]
+#[tactic(auto, using(crate::proofs::LeftWorlds::counts_left))]
 pub(crate) fn put_left_counts(
     alloc: Global,
     text: &mut Vec<u8>,
@@ -39,7 +39,7 @@ pub(crate) fn put_left_counts(
 }
 
 /// Appends the counts of what a run of these events left, which are made for that.
-#[tactic(auto, using(crate::proofs::Leaving::ledger_is))]
+#[tactic(auto, using(crate::proofs::LeftWorlds::ledger_is))]
 fn put_made_counts(
     alloc: Global,
     text: &mut Vec<u8>,

@@ -117,7 +117,7 @@ pub(crate) fn put_logs(
 }
 
 /// Appends a row for each log.
-#[tactic(auto, unfolding(table_text::specs::Rows::rows_text), using(crate::proofs::Going::goes_on, crate::proofs::Going::is_done))]
+#[tactic(auto, unfolding(table_text::specs::Rows::rows_text), using(crate::proofs::AppendLoops::goes_on, crate::proofs::AppendLoops::is_done))]
 fn put_rows(rows: &mut Vec<u8>, logs: &[NodeLog], torn: &[usize]) -> Result<(), AllocError>
     ensures { OnOk result (AddsRows Json rows.old rows.new (log_rows (logs_seen logs.now) torn.now)) }
 {

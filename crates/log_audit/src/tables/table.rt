@@ -138,7 +138,7 @@ fn put_member<K: TextSink + Drop>(
 }
 
 /// Appends the rows of a table as a list of JSON.
-#[tactic(auto, using(std::proofs::lemmas::Result::on_ok_weaker, crate::proofs::Passing::list_ended))]
+#[tactic(auto, using(std::proofs::lemmas::Result::on_ok_weaker, crate::proofs::Pieces::list_ended))]
 fn put_rows_list<K: TextSink + Drop>(
     alloc: Global,
     out: &mut Outgoing<K>,

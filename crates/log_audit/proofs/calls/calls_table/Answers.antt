@@ -7,7 +7,7 @@ use Rattle.log_audit.specs.Given.{bytes_of, read_by}
 use Rattle.log_audit.specs.Refused.{AreNoLogs}
 use Rattle.log_audit.specs.Calls.{AreKept}
 use Rattle.log_audit.proofs.Refusing.{logs_refused}
-use Rattle.log_audit.proofs.Calling.{table_is}
+use Rattle.log_audit.proofs.CallRows.{table_is}
 use Rattle.log_audit.proofs.calls.calls_table.Goals as goal
 
 pub returns-in_err-put_logs-clause-refused : goal.returns-in_err-put_logs-clause-refused

@@ -5,7 +5,7 @@ use Rattle.std.specs.Vec.Iter.{into_iter_items}
 use Rattle.settings_digest.specs.Digests.{under}
 use Rattle.log_audit.specs.Given.{bytes_of}
 use Rattle.log_audit.specs.Calls.{TellsLogs}
-use Rattle.log_audit.proofs.Calling.{no_logs, logs_more, no_log_told}
+use Rattle.log_audit.proofs.CallRows.{no_logs, logs_more, no_log_told}
 use Rattle.log_audit.proofs.calls.put_logs.Goals as goal
 
 nothing_left : {X : Type 0} (l : List X) → length l ≡ 0 → l ≡ []

@@ -1,7 +1,7 @@
 use Rattle.std.proofs.Common.{map, length, sym, ap, ◌∙◌}
 use Rattle.std.proofs.lemmas.List.{length-map}
 use Rattle.world_setup.specs.Seen.{event_seen}
-use Rattle.log_audit.proofs.Writing.{lines_told}
+use Rattle.log_audit.proofs.RunTexts.{lines_told}
 use Rattle.log_audit.proofs.report.run_lines.Goals as goal
 
 pub returns : goal.returns

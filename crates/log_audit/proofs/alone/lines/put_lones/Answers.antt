@@ -3,7 +3,7 @@ use Rattle.std.specs.List.{flat_map}
 use Rattle.claim_model.specs.Bytes.{bytes_with}
 use Rattle.log_audit.specs.AloneSeen.{lones_seen}
 use Rattle.log_audit.specs.LoneTelling.{lone_text}
-use Rattle.log_audit.proofs.Going.{goes_on}
+use Rattle.log_audit.proofs.AppendLoops.{goes_on}
 use Rattle.log_audit.proofs.alone.lines.put_lones.Goals as goal
 
 pub loop-lone-preserved : goal.loop-lone-preserved

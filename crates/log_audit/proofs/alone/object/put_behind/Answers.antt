@@ -1,7 +1,7 @@
 use Rattle.std.proofs.Common.{append-nil, sym}
 use Rattle.log_audit.specs.AloneSeen.{lone_seen}
 use Rattle.log_audit.specs.Lones.{is_behind}
-use Rattle.log_audit.proofs.Listing.{any_seen}
+use Rattle.log_audit.proofs.AnyAndAll.{any_seen}
 use Rattle.log_audit.proofs.alone.object.put_behind.Goals as goal
 
 pub returns-then-some_behind : goal.returns-then-some_behind

@@ -4,7 +4,7 @@ use Rattle.log_audit.specs.AloneSeen.{lone_seen}
 use Rattle.log_audit.specs.Lones.{Lone, makes}
 use Rattle.log_audit.specs.LoneTelling.{lones_of, lones_text, all_make}
 use Rattle.log_audit.specs.Telling.{context_for}
-use Rattle.log_audit.proofs.Listing.{all_seen}
+use Rattle.log_audit.proofs.AnyAndAll.{all_seen}
 use Rattle.log_audit.proofs.alone.report.put_alone.Goals as goal
 use Rattle.world_setup.specs.Taken.{routes_in}
 

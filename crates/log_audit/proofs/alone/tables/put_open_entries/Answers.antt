@@ -2,7 +2,7 @@ use Rattle.std.proofs.Common.{length}
 use Rattle.world_setup.specs.Seen.{node_seen}
 use Rattle.log_audit.specs.Kinds.{number_of}
 use Rattle.log_audit.specs.Lones.{open_rows}
-use Rattle.log_audit.proofs.Passing.{piece_put}
+use Rattle.log_audit.proofs.Pieces.{piece_put}
 use Rattle.log_audit.proofs.Joining.{blocks_go_on, blocks_are_done}
 use Rattle.log_audit.proofs.alone.tables.put_open_entries.Goals as goal
 

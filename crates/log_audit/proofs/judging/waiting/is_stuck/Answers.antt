@@ -1,7 +1,7 @@
 use Rattle.std.proofs.Common.{map, sym, ◌∙◌}
 use Rattle.log_audit.specs.Waits.{is_held, has_next}
 use Rattle.log_audit.specs.WaitsSeen.{progress_seen}
-use Rattle.log_audit.proofs.Listing.{any_seen, all_seen, both_hold, one_fails}
+use Rattle.log_audit.proofs.AnyAndAll.{any_seen, all_seen, both_hold, one_fails}
 use Rattle.log_audit.proofs.judging.waiting.is_stuck.Goals as goal
 
 pub returns-then-all_held : goal.returns-then-all_held

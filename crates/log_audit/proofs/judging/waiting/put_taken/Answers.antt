@@ -4,7 +4,7 @@ use Rattle.input_text.proofs.Joining.{lists_join}
 use Rattle.world_setup.specs.Seen.{node_seen}
 use Rattle.log_audit.specs.Waits.{sent_ever}
 use Rattle.log_audit.specs.WaitsSeen.{progress_seen}
-use Rattle.log_audit.proofs.Listing.{any_seen}
+use Rattle.log_audit.proofs.AnyAndAll.{any_seen}
 use Rattle.log_audit.proofs.judging.waiting.put_taken.Goals as goal
 
 pub returns : goal.returns

@@ -3,7 +3,7 @@ use Rattle.std.specs.Prelude.{not}
 use Rattle.world_setup.specs.Seen.{node_seen}
 use Rattle.log_audit.specs.Waits.{sent_before}
 use Rattle.log_audit.specs.WaitsSeen.{progress_seen}
-use Rattle.log_audit.proofs.Listing.{any_seen}
+use Rattle.log_audit.proofs.AnyAndAll.{any_seen}
 use Rattle.log_audit.proofs.judging.waiting.waits.Goals as goal
 
 pub returns-in-Take : goal.returns-in-Take

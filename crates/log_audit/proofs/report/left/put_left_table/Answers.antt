@@ -1,6 +1,6 @@
 use Rattle.std.proofs.Common.{List, ℕ, ◌++◌, [], map, sym, ap, ◌∙◌}
 use Rattle.world_setup.specs.Seen.{event_seen}
-use Rattle.log_audit.proofs.Leaving.{table_left}
+use Rattle.log_audit.proofs.LeftWorlds.{table_left}
 use Rattle.log_audit.proofs.report.left.put_left_table.Goals as goal
 
 pub returns-in_ok-put_csv-in-Some : goal.returns-in_ok-put_csv-in-Some

@@ -1,6 +1,6 @@
 use Rattle.std.proofs.Common.{List, ℕ, ◌++◌, map, ap, ◌∙◌}
 use Rattle.world_setup.specs.Seen.{event_seen}
-use Rattle.log_audit.proofs.Leaving.{members_are}
+use Rattle.log_audit.proofs.LeftWorlds.{members_are}
 use Rattle.log_audit.proofs.report.left.put_left_tables.Goals as goal
 
 pub returns : goal.returns

@@ -1,6 +1,6 @@
 use Rattle.std.proofs.Common.{List, ℕ, ◌++◌, map, ap, ◌∙◌}
 use Rattle.world_setup.specs.Seen.{event_seen}
-use Rattle.log_audit.proofs.Leaving.{csv_is}
+use Rattle.log_audit.proofs.LeftWorlds.{csv_is}
 use Rattle.log_audit.proofs.report.left.put_made_table.Goals as goal
 
 pub returns : goal.returns

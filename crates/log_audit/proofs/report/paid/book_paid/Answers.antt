@@ -3,7 +3,7 @@ use Rattle.std.specs.List.{flat_map}
 use Rattle.claim_model.specs.Bytes.{bytes_with}
 use Rattle.claim_model.specs.Rows.{Row}
 use Rattle.log_audit.specs.Ledger.{row_paid}
-use Rattle.log_audit.proofs.Going.{goes_on}
+use Rattle.log_audit.proofs.AppendLoops.{goes_on}
 use Rattle.log_audit.proofs.report.paid.book_paid.Goals as goal
 
 pub loop-row-preserved : goal.loop-row-preserved

@@ -3,7 +3,7 @@ use Rattle.std.specs.List.{flat_map}
 use Rattle.claim_model.specs.Bytes.{bytes_with}
 use Rattle.claim_model.specs.Words.{Ruling}
 use Rattle.log_audit.specs.Ledger.{ruling_paid}
-use Rattle.log_audit.proofs.Going.{goes_on, is_done}
+use Rattle.log_audit.proofs.AppendLoops.{goes_on, is_done}
 use Rattle.log_audit.proofs.report.paid.take_row.Goals as goal
 
 pub loop-ruling-preserved : goal.loop-ruling-preserved

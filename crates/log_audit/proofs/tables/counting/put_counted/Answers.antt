@@ -1,7 +1,7 @@
 use Rattle.std.proofs.Common.{◌∷◌, []}
 use Rattle.claim_model.specs.Counted.{Counted}
 use Rattle.log_audit.specs.CountedRows.{counted_row}
-use Rattle.log_audit.proofs.Passing.{piece_put}
+use Rattle.log_audit.proofs.Pieces.{piece_put}
 use Rattle.log_audit.proofs.Joining.{blocks_go_on, blocks_are_done, one_row}
 use Rattle.log_audit.proofs.tables.counting.put_counted.Goals as goal
 

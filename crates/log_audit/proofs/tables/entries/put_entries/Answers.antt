@@ -1,6 +1,6 @@
 use Rattle.std.proofs.Common.{◌≡◌, refl}
 use Rattle.log_audit.specs.Entries.{count_named, entry_rows}
-use Rattle.log_audit.proofs.Passing.{piece_put}
+use Rattle.log_audit.proofs.Pieces.{piece_put}
 use Rattle.log_audit.proofs.Joining.{one_row, rows_go_on, rows_are_done}
 use Rattle.log_audit.proofs.tables.entries.put_entries.Goals as goal
 

@@ -5,7 +5,7 @@ use Rattle.claim_model.specs.Numbered.{numbered}
 use Rattle.world_setup.specs.Seen.{packet_seen}
 use Rattle.log_audit.specs.Packets.{packet_told}
 use Rattle.log_audit.specs.Payments.{told_from}
-use Rattle.log_audit.proofs.Passing.{piece_put}
+use Rattle.log_audit.proofs.Pieces.{piece_put}
 use Rattle.log_audit.proofs.Joining.{rows_go_on, rows_are_done}
 use Rattle.log_audit.proofs.tables.packets.put_packets.Goals as goal
 

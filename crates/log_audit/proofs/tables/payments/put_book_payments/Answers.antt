@@ -1,7 +1,7 @@
 use Rattle.claim_model.specs.Bytes.{bytes_with}
 use Rattle.pharmacy_journal.specs.Counting.{has_auth}
 use Rattle.log_audit.specs.Payments.{row_payments}
-use Rattle.log_audit.proofs.Passing.{piece_put}
+use Rattle.log_audit.proofs.Pieces.{piece_put}
 use Rattle.log_audit.proofs.Joining.{blocks_go_on, blocks_are_done}
 use Rattle.std.proofs.Common.{◌∙◌}
 use Rattle.log_audit.proofs.tables.payments.put_book_payments.Goals as goal

@@ -1,6 +1,6 @@
 use Rattle.std.proofs.Common.{◌∙◌}
 use Rattle.log_audit.specs.Rulings.{row_rulings}
-use Rattle.log_audit.proofs.Passing.{piece_put}
+use Rattle.log_audit.proofs.Pieces.{piece_put}
 use Rattle.log_audit.proofs.Joining.{blocks_go_on, blocks_are_done}
 use Rattle.log_audit.proofs.tables.rows.put_book_rulings.Goals as goal
 
