@@ -22,8 +22,8 @@ use Rattle.node_process.specs.Acts.{Act, Found, Unread, Cut, found, file, kept}
 use Rattle.node_process.specs.Safe.{IsStartOf, Whose}
 use Rattle.node_process.specs.Histories.{zeros, Happening, Does, acts_of, left_of, file_or, file_of, on_disk, digest_of, IsAlive}
 use Rattle.node_process.proofs.Bare.{HasKept, ReadsKept}
-use Rattle.node_process.proofs.Left.{IsTornOf, start_length, taken_length, untorn, torn_fits, torn_reads, zeros_read, text_cut, nothing_cut, same_reading, not_short}
-use Rattle.node_process.proofs.Fronts.{start_taken, take_none}
+use Rattle.node_process.proofs.Left.{IsTornOf, taken_length, untorn, torn_fits, torn_reads, zeros_read, text_cut, nothing_cut, same_reading, not_short}
+use Rattle.node_process.proofs.Fronts.{start_length, start_taken, take_none}
 use Rattle.node_process.proofs.Waking.{Lives}
 use Rattle.node_process.proofs.Between.{IsInner, inner_still, digest_length, all_fit, GoesOn, RunsOn}
 

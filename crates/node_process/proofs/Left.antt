@@ -20,7 +20,8 @@ use Rattle.settings_digest.specs.Digests.{digest_in, digest_under, turned_in, tu
 use Rattle.node_process.specs.Safe.{IsStartOf}
 use Rattle.node_process.specs.Histories.{zeros, IsWholeLog}
 use Rattle.node_process.proofs.Bare.{HasKept, ReadsKept}
-use Rattle.node_process.proofs.Zeros.{zeros_length, reads_zeros}
+use Rattle.node_process.proofs.Fronts.{first_of, start_length}
+use Rattle.node_process.proofs.Zeros.{zeros_length, take_zeros, more_zeros, reads_zeros}
 
 -- ---- more bytes have no fewer whole records
 
@@ -44,25 +45,10 @@ within_more version number n m (r ∷ calls) h =
 
 -- ---- what begins what
 
-pub first_of : (front bytes : List ℕ) → IsStartOf front bytes → front ≡ take (length front) bytes
-first_of front bytes s = sym (ap (take (length front)) (sym s.is) ∙ take_at front s.rest (length front) refl)
-
-pub start_length : (front bytes : List ℕ) → IsStartOf front bytes → length front ≤ length bytes
-start_length front bytes s = let e = length-append front s.rest in let f = ap length s.is in omega (arith, e, f)
-
 pub taken_length : {A : Type 0} (n : ℕ) (xs : List A) → length (take n xs) ≤ n
 taken_length zero xs = omega arith
 taken_length (suc n) [] = omega arith
 taken_length (suc n) (x ∷ xs) = let inner = taken_length n xs in omega (arith, inner)
-
-pub take_zeros : (m n : ℕ) → m ≤ n → take m (zeros n) ≡ zeros m
-take_zeros zero n h = refl
-take_zeros (suc m) zero h = absurd (omega (arith, h))
-take_zeros (suc m) (suc n) h = ap (λ (x : List ℕ). 0 ∷ x) (take_zeros m n (omega (arith, h)))
-
-more_zeros : (m n : ℕ) → zeros m ++ zeros n ≡ zeros (m + n)
-more_zeros zero n = let e : n ≡ 0 + n = omega arith in ap (λ k. zeros k) e
-more_zeros (suc m) n = let e : suc (m + n) ≡ suc m + n = omega arith in ap (λ (x : List ℕ). 0 ∷ x) (more_zeros m n) ∙ ap (λ k. zeros k) e
 
 -- a list that is the first elements of another is its first by its own length
 own_first : {A : Type 0} (xs ys : List A) (m : ℕ) → xs ≡ take m ys → xs ≡ take (length xs) ys

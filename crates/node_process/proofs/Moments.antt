@@ -1,5 +1,5 @@
 -- Each act of a process, from a moment that is safe to the next.
-use Rattle.std.proofs.Common.{◌≡◌, ◌≤◌, ℕ, zero, suc, Bool, true, false, not, ◌&&◌, cond, List, [], ◌∷◌, ◌++◌, take, length, Result, Ok, Err, OnOk, OnErr, is_ok, ◌==◌, refl, sym, ap, ◌∙◌, subst, ◌⊎◌, inl, inr, append_assoc, append-nil, arith}
+use Rattle.std.proofs.Common.{◌≡◌, ◌≤◌, ℕ, suc, Bool, true, false, not, ◌&&◌, cond, List, [], ◌∷◌, ◌++◌, take, length, Result, Ok, Err, OnOk, OnErr, is_ok, ◌==◌, refl, sym, ap, ◌∙◌, subst, ◌⊎◌, inl, inr, append_assoc, append-nil, arith}
 use Rattle.std.proofs.lemmas.Bool.Decides.{nat_tests}
 use Rattle.node_service.specs.Serving.{Serving, cleared}
 use Rattle.node_service.specs.Lines.{after_lines}
@@ -8,13 +8,8 @@ use Rattle.node_process.specs.Acts.{Act, Found, Cut, Append, Sync, Say, Hear, Un
 use Rattle.node_process.specs.Heard.{whole_lines, begun_line}
 use Rattle.node_process.specs.Safe.{Whose, AreEnough, closed_calls, greeting, IsStartOf, asked, log_of, words_of, FitsInput, IsCovered, IsLogOfInput, IsWholeFile, IsSafe, AtEachMoment, IsRun, IsRunDone, IsServed, IsLogged, IsOpening, Reads, Trims, Heads, Begins, Serves, Logs}
 use Rattle.node_service.proofs.Lines.{new_or_whole}
-use Rattle.node_process.proofs.Fronts.{all_of, start_with, through}
+use Rattle.node_process.proofs.Fronts.{all_of, same_start, start_with, take_none, through}
 use Rattle.node_process.proofs.Asking.{asked_more, fits_more}
-
--- ---- beginnings
-
-same_start : (front bytes : List ℕ) → front ≡ bytes → IsStartOf front bytes
-same_start front bytes e = subst (IsStartOf front) e (all_of front)
 
 -- ---- moments
 
@@ -179,13 +174,6 @@ module _ (before : ℕ) (start : Serving) (base : List ℕ) where
   pub found_each : (bytes : List ℕ) → AtEachMoment before start base (Found bytes ∷ [])
   found_each bytes = (record { order = refl; covered = inl refl; whole = inl refl }, record { order = tt; covered = inl refl; whole = inl refl })
 
-  -- the file of an opening, which is the log of no input
-  none_log : (t : List Act) (text : List ℕ) → IsOpening before start base t text → text ≡ base ++ start.records → IsLogOfInput start base t
-  none_log t text o e = record { input = []; came = record { rest = heard t; is = refl }; fits = tt; is = o.is ∙ e }
-
-  log_of_none : (t : List Act) (text : List ℕ) → IsOpening before start base t text → text ≡ base ++ start.records → IsWholeFile start base t
-  log_of_none t text o e = inr (inr (none_log t text o e))
-
   pub head_each : (t : List Act) (done : Bool) → IsOpening before start base t base → kept t ≡ file t → AtEachMoment before start base (Append start.records done ∷ t)
   head_each t done o synced = (
     record {
@@ -268,10 +256,6 @@ cut_each before s whole bytes done = (record { order = (refl, refl); covered = i
 pub cut_runs : (whose : Whose) (t : List Act) (whole size : ℕ) (s : Serving) (done : Bool) → Reads whose t whole size s → IsRun whose (Cut whole done ∷ t)
 cut_runs whose t whole size s done r =
     subst (λ (acts : List Act). IsRun whose (Cut whole done ∷ acts)) (sym r.is) (runs whose (Cut whole done ∷ Found r.bytes ∷ []) s whole r.opened r.enough (cut_each (closed_calls whose) s whole r.bytes done))
-
-take_none : (whole : ℕ) → take {A = ℕ} whole [] ≡ []
-take_none zero = refl
-take_none (suc whole) = refl
 
 pub cut_trims : (whose : Whose) (t : List Act) (whole size : ℕ) (s : Serving) → Reads whose t whole size s → Trims whose (Cut whole true ∷ t) whole s
 cut_trims whose t whole size s r =

@@ -17,7 +17,8 @@ use Rattle.node_process.specs.Heard.{whole_lines}
 use Rattle.node_process.specs.Safe.{IsStartOf, closed_calls, log_of, IsCovered, Whose}
 use Rattle.node_process.specs.Histories.{IsToldBy}
 use Rattle.node_process.proofs.Bare.{HasKept, bare_take}
-use Rattle.node_process.proofs.Left.{first_of, start_length, begins_with}
+use Rattle.node_process.proofs.Fronts.{first_of, start_length}
+use Rattle.node_process.proofs.Left.{begins_with}
 use Rattle.node_process.proofs.Spoken.{told_by, told_nothing}
 use Rattle.node_process.proofs.Texts.{IsMadeText, input_text}
 

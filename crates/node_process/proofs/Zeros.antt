@@ -1,5 +1,5 @@
 -- Zeros after the text of a log are read as a record that is cut off.
-use Rattle.std.proofs.Common.{◌≡◌, inl, inr, ℕ, zero, suc, ◌+◌, ◌-◌, ◌<◌, ◌≤◌, true, cond, List, [], ◌∷◌, ◌++◌, length, nat_lt, Some, None, Ok, refl, ap, ◌∙◌, arith, append_assoc, length-append}
+use Rattle.std.proofs.Common.{◌≡◌, inl, inr, ℕ, zero, suc, ◌+◌, ◌-◌, ◌<◌, ◌≤◌, true, cond, List, [], ◌∷◌, ◌++◌, length, take, nat_lt, Some, None, Ok, refl, ap, ◌∙◌, arith, append_assoc, length-append}
 use Rattle.std.proofs.lemmas.Bool.{cases_lt}
 use Rattle.std.proofs.lemmas.Bool.Decides.{nat_tests}
 use Rattle.std.specs.Int.{w64, to_be_bytes}
@@ -22,6 +22,15 @@ use Rattle.node_process.specs.Histories.{zeros}
 pub zeros_length : (n : ℕ) → length (zeros n) ≡ n
 zeros_length zero = refl
 zeros_length (suc n) = ap (λ k. suc k) (zeros_length n)
+
+pub take_zeros : (m n : ℕ) → m ≤ n → take m (zeros n) ≡ zeros m
+take_zeros zero n h = refl
+take_zeros (suc m) zero h = absurd (omega (arith, h))
+take_zeros (suc m) (suc n) h = ap (λ (x : List ℕ). 0 ∷ x) (take_zeros m n (omega (arith, h)))
+
+pub more_zeros : (m n : ℕ) → zeros m ++ zeros n ≡ zeros (m + n)
+more_zeros zero n = let e : n ≡ 0 + n = omega arith in ap (λ k. zeros k) e
+more_zeros (suc m) n = let e : suc (m + n) ≡ suc m + n = omega arith in ap (λ (x : List ℕ). 0 ∷ x) (more_zeros m n) ∙ ap (λ k. zeros k) e
 
 are_zeros : (n : ℕ) → is_zeros (zeros n) ≡ true
 are_zeros zero = refl
