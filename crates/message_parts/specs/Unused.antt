@@ -1,6 +1,7 @@
 -- The fields of the standard that this profile carries and does not use.
 use Rattle.std.specs.Prelude.{ℕ, List, map, Option}
-use Rattle.message_parts.specs.declared.standard.TheConstants.{PATIENT, PROVIDERS, INSURANCE, OTHER_PAYERS, WORKERS_COMPENSATION, DISPENSED, TERMS, PRICING, CLINICAL}
+use Rattle.message_parts.specs.declared.claim_fields.TheConstants.{DISPENSED, TERMS, PRICING, CLINICAL}
+use Rattle.message_parts.specs.declared.party_fields.TheConstants.{PATIENT, PROVIDERS, INSURANCE, OTHER_PAYERS, WORKERS_COMPENSATION}
 use Rattle.message_parts.specs.FieldTitles.{Titles, of_row, named_in, or_next}
 use Rattle.message_parts.specs.AnswerFields.{answer_field}
 

@@ -1,16 +1,9 @@
-//! Fields of answers that this profile carries and does not use, by number and name, and which of them two
-//! letters name. Definitions cite these tables.
+//! Fields of answers that this profile carries and does not use, by number and name. Definitions cite these tables.
 
-ghost use Rattle.std.specs.Prelude.{◌≡◌};
-ghost use Rattle.std.specs.Option.{option_map};
-ghost use Rattle.message_parts.specs.FieldTitles.{titles_seen, named_in};
-ghost use Rattle.message_parts.specs.AnswerFields.{answer_field, message_fields, preferred_fields, paid_fields, shared_fields, reviewed_fields, insurer_fields};
-
-use crate::names::{Called, Named};
-use crate::unused::named_in;
+use crate::names::Called;
 
 /// The segments of messages and of the status of an answer, AM20 and AM21.
-static MESSAGES: [Called; 11] = [
+pub(crate) static MESSAGES: [Called; 11] = [
     ("504-F4", "message", "message"),
     (
         "526-FQ",
@@ -53,7 +46,7 @@ static MESSAGES: [Called; 11] = [
 ];
 
 /// The claim segment of an answer, AM22.
-static PREFERRED: [Called; 7] = [
+pub(crate) static PREFERRED: [Called; 7] = [
     (
         "551-9F",
         "preferred product count",
@@ -88,7 +81,7 @@ static PREFERRED: [Called; 7] = [
 ];
 
 /// The pricing segment of an answer, AM23: what is paid, and by which basis.
-static PAID: [Called; 22] = [
+pub(crate) static PAID: [Called; 22] = [
     ("557-AV", "tax exempt indicator", "tax_exempt_indicator"),
     (
         "558-AW",
@@ -178,7 +171,7 @@ static PAID: [Called; 22] = [
 ];
 
 /// The pricing segment of an answer, AM23: the patient's part and the plan's limits.
-static SHARED: [Called; 16] = [
+pub(crate) static SHARED: [Called; 16] = [
     ("518-FI", "amount of copay", "amount_of_copay"),
     ("572-4U", "amount of coinsurance", "amount_of_coinsurance"),
     (
@@ -254,7 +247,7 @@ static SHARED: [Called; 16] = [
 ];
 
 /// The segment of drug use review of an answer, AM24.
-static REVIEWED: [Called; 9] = [
+pub(crate) static REVIEWED: [Called; 9] = [
     (
         "567-J6",
         "review response code counter",
@@ -295,7 +288,7 @@ static REVIEWED: [Called; 9] = [
 ];
 
 /// The segments of an answer that name insurers, AM25 and AM28.
-static INSURERS: [Called; 12] = [
+pub(crate) static INSURERS: [Called; 12] = [
     (
         "545-2F",
         "network reimbursement ID",
@@ -341,74 +334,3 @@ static INSURERS: [Called; 12] = [
         "other_payer_benefit_termination_date",
     ),
 ];
-
-/// The field of answers that two letters name, where it is one that this profile does not use.
-#[tactic(auto, unfolding(crate::specs::AnswerFields::answer_field))]
-pub(crate) fn answer_field(letters: &[u8]) -> Option<Named>
-    ensures { option_map titles_seen result ≡ answer_field letters.now }
-{
-    if let Some(named) = of_message(letters) {
-        return Some(named);
-    }
-    if let Some(named) = of_preferred(letters) {
-        return Some(named);
-    }
-    if let Some(named) = of_paid(letters) {
-        return Some(named);
-    }
-    if let Some(named) = of_shared(letters) {
-        return Some(named);
-    }
-    if let Some(named) = of_reviewed(letters) {
-        return Some(named);
-    }
-    of_insurer(letters)
-}
-
-/// The field of MESSAGES that two letters name.
-#[tactic(auto, unfolding(crate::specs::AnswerFields::message_fields))]
-fn of_message(letters: &[u8]) -> Option<Named>
-    ensures { option_map titles_seen result ≡ named_in message_fields letters.now }
-{
-    named_in(MESSAGES.as_slice(), letters)
-}
-
-/// The field of PREFERRED that two letters name.
-#[tactic(auto, unfolding(crate::specs::AnswerFields::preferred_fields))]
-fn of_preferred(letters: &[u8]) -> Option<Named>
-    ensures { option_map titles_seen result ≡ named_in preferred_fields letters.now }
-{
-    named_in(PREFERRED.as_slice(), letters)
-}
-
-/// The field of PAID that two letters name.
-#[tactic(auto, unfolding(crate::specs::AnswerFields::paid_fields))]
-fn of_paid(letters: &[u8]) -> Option<Named>
-    ensures { option_map titles_seen result ≡ named_in paid_fields letters.now }
-{
-    named_in(PAID.as_slice(), letters)
-}
-
-/// The field of SHARED that two letters name.
-#[tactic(auto, unfolding(crate::specs::AnswerFields::shared_fields))]
-fn of_shared(letters: &[u8]) -> Option<Named>
-    ensures { option_map titles_seen result ≡ named_in shared_fields letters.now }
-{
-    named_in(SHARED.as_slice(), letters)
-}
-
-/// The field of REVIEWED that two letters name.
-#[tactic(auto, unfolding(crate::specs::AnswerFields::reviewed_fields))]
-fn of_reviewed(letters: &[u8]) -> Option<Named>
-    ensures { option_map titles_seen result ≡ named_in reviewed_fields letters.now }
-{
-    named_in(REVIEWED.as_slice(), letters)
-}
-
-/// The field of INSURERS that two letters name.
-#[tactic(auto, unfolding(crate::specs::AnswerFields::insurer_fields))]
-fn of_insurer(letters: &[u8]) -> Option<Named>
-    ensures { option_map titles_seen result ≡ named_in insurer_fields letters.now }
-{
-    named_in(INSURERS.as_slice(), letters)
-}

@@ -5,6 +5,7 @@
 mod answer_fields;
 mod books;
 mod causes;
+mod claim_fields;
 mod cutter;
 mod dissecting;
 mod findings;
@@ -16,8 +17,8 @@ mod marks;
 mod names;
 mod numbers;
 mod part;
+mod party_fields;
 mod records;
-mod standard;
 mod transmissions;
 mod unused;
 mod values;

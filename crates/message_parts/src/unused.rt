@@ -4,16 +4,14 @@ ghost use Rattle.std.specs.Prelude.{◌≡◌, drop, map};
 ghost use Rattle.std.specs.Option.{option_map};
 ghost use Rattle.std.specs.Str.{bytes_eq};
 ghost use Rattle.message_parts.specs.FieldTitles.{titles, titles_seen, named_in};
-ghost use Rattle.message_parts.specs.AnswerFields.{answer_field};
+ghost use Rattle.message_parts.specs.AnswerFields.{answer_field, message_fields, preferred_fields, paid_fields, shared_fields, reviewed_fields, insurer_fields};
 ghost use Rattle.message_parts.specs.Unused.{claim_or_answer_field, unused_field, patient_fields, providers_fields, insurance_fields, other_payers_fields, workers_compensation_fields, dispensed_fields, terms_fields, pricing_fields, clinical_fields};
 
-use crate::answer_fields::answer_field;
+use crate::answer_fields::{INSURERS, MESSAGES, PAID, PREFERRED, REVIEWED, SHARED};
+use crate::claim_fields::{CLINICAL, DISPENSED, PRICING, TERMS};
 use crate::names::{Called, Named, named_by};
 use crate::numbers::behind;
-use crate::standard::{
-    CLINICAL, DISPENSED, INSURANCE, OTHER_PAYERS, PATIENT, PRICING, PROVIDERS, TERMS,
-    WORKERS_COMPENSATION,
-};
+use crate::party_fields::{INSURANCE, OTHER_PAYERS, PATIENT, PROVIDERS, WORKERS_COMPENSATION};
 
 /// The field of the standard that two letters name, where it is one that this profile does not use.
 #[tactic(auto, unfolding(crate::specs::Unused::unused_field))]
@@ -128,6 +126,77 @@ fn of_clinical(letters: &[u8]) -> Option<Named>
     ensures { option_map titles_seen result ≡ named_in clinical_fields letters.now }
 {
     named_in(CLINICAL.as_slice(), letters)
+}
+
+/// The field of answers that two letters name, where it is one that this profile does not use.
+#[tactic(auto, unfolding(crate::specs::AnswerFields::answer_field))]
+fn answer_field(letters: &[u8]) -> Option<Named>
+    ensures { option_map titles_seen result ≡ answer_field letters.now }
+{
+    if let Some(named) = of_message(letters) {
+        return Some(named);
+    }
+    if let Some(named) = of_preferred(letters) {
+        return Some(named);
+    }
+    if let Some(named) = of_paid(letters) {
+        return Some(named);
+    }
+    if let Some(named) = of_shared(letters) {
+        return Some(named);
+    }
+    if let Some(named) = of_reviewed(letters) {
+        return Some(named);
+    }
+    of_insurer(letters)
+}
+
+/// The field of MESSAGES that two letters name.
+#[tactic(auto, unfolding(crate::specs::AnswerFields::message_fields))]
+fn of_message(letters: &[u8]) -> Option<Named>
+    ensures { option_map titles_seen result ≡ named_in message_fields letters.now }
+{
+    named_in(MESSAGES.as_slice(), letters)
+}
+
+/// The field of PREFERRED that two letters name.
+#[tactic(auto, unfolding(crate::specs::AnswerFields::preferred_fields))]
+fn of_preferred(letters: &[u8]) -> Option<Named>
+    ensures { option_map titles_seen result ≡ named_in preferred_fields letters.now }
+{
+    named_in(PREFERRED.as_slice(), letters)
+}
+
+/// The field of PAID that two letters name.
+#[tactic(auto, unfolding(crate::specs::AnswerFields::paid_fields))]
+fn of_paid(letters: &[u8]) -> Option<Named>
+    ensures { option_map titles_seen result ≡ named_in paid_fields letters.now }
+{
+    named_in(PAID.as_slice(), letters)
+}
+
+/// The field of SHARED that two letters name.
+#[tactic(auto, unfolding(crate::specs::AnswerFields::shared_fields))]
+fn of_shared(letters: &[u8]) -> Option<Named>
+    ensures { option_map titles_seen result ≡ named_in shared_fields letters.now }
+{
+    named_in(SHARED.as_slice(), letters)
+}
+
+/// The field of REVIEWED that two letters name.
+#[tactic(auto, unfolding(crate::specs::AnswerFields::reviewed_fields))]
+fn of_reviewed(letters: &[u8]) -> Option<Named>
+    ensures { option_map titles_seen result ≡ named_in reviewed_fields letters.now }
+{
+    named_in(REVIEWED.as_slice(), letters)
+}
+
+/// The field of INSURERS that two letters name.
+#[tactic(auto, unfolding(crate::specs::AnswerFields::insurer_fields))]
+fn of_insurer(letters: &[u8]) -> Option<Named>
+    ensures { option_map titles_seen result ≡ named_in insurer_fields letters.now }
+{
+    named_in(INSURERS.as_slice(), letters)
 }
 
 /// The first field of a table whose number ends with these letters.
