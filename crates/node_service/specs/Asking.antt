@@ -15,8 +15,8 @@ use Rattle.node_service.specs.declared.asking.Asked as value
 use Rattle.node_service.specs.declared.asking.Asked.TheVariants as asked
 use Rattle.kept_logs.specs.Stamps.{Stamp, no_stamp}
 use Rattle.node_service.specs.declared.asking.Noted as noted
-use Rattle.node_service.specs.declared.asking.Question.{Question}
-use Rattle.node_service.specs.declared.asking.Question.TheVariants.{Answer, Count, Open, Row, Payments}
+use Rattle.node_service.specs.declared.questions.Question.{Question}
+use Rattle.node_service.specs.declared.questions.Question.TheVariants.{Answer, Count, Open, Row, Payments}
 
 -- a call with texts of its own
 abbrev pub Call : Type 0

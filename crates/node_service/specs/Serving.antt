@@ -11,8 +11,8 @@ use Rattle.node_logged.specs.Setting.{context_of}
 use Rattle.kept_logs.specs.Stamps.{Stamp, stamped_text}
 use Rattle.kept_logs.specs.References.{Reference, referred}
 use Rattle.kept_logs.specs.Frames.{frame_text}
-use Rattle.node_service.specs.declared.asking.Question.{Question}
-use Rattle.node_service.specs.declared.asking.Question.TheVariants.{Answer, Count, Open, Row, Payments}
+use Rattle.node_service.specs.declared.questions.Question.{Question}
+use Rattle.node_service.specs.declared.questions.Question.TheVariants.{Answer, Count, Open, Row, Payments}
 use Rattle.node_service.specs.Asking.{Asked, Calls, Tells, asked_of}
 use Rattle.node_service.specs.Answering.{sent_lines, done_line, idle_line, known_line, number_line, refused_line, answer_line}
 use Rattle.node_service.specs.BookRow.{row_text}

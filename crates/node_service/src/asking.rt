@@ -4,16 +4,14 @@ ghost use Rattle.std.specs.Prelude.{◌≡◌, IfOk};
 ghost use Rattle.std.specs.Option.{option_map};
 ghost use Rattle.schedule.specs.Events.{cap_in, price_of};
 ghost use Rattle.world_setup.specs.declared.call.Call.TheVariants.{Cap};
-ghost use Rattle.node_service.specs.Asking.{adjudication, asked_of, asked_seen, bytes_in, call_of, call_with, cents_in, named_of, named_submission, noted_of, noted_seen, plain_call, plain_question, plan_change, question_of, question_with, range_in, reference_in, reference_of, rule_change, submission, taking, terms_change, timed, unnoted};
+ghost use Rattle.node_service.specs.Asking.{adjudication, asked_of, asked_seen, bytes_in, call_of, call_with, cents_in, named_of, named_submission, noted_of, noted_seen, plain_call, plan_change, reference_in, reference_of, rule_change, submission, taking, terms_change, timed, unnoted};
 
+use crate::questions::{MOST_NUMBER_DIGITS, Question, question_of};
 use input_text::{PrintedFault, read_decimal, split_word, unprint};
 use octets::Octets;
 use schedule::{cap_in, node_in, price_in, product_in, switches_in};
 use std::alloc::{AllocError, Global};
 use world_setup::Call;
-
-/// The most digits of an entry's number, or of a count (own).
-const MOST_NUMBER_DIGITS: usize = 18;
 
 /// The most digits of a fee or a copay (own).
 const MOST_CENTS_DIGITS: usize = 10;
@@ -41,21 +39,6 @@ pub(crate) enum Asked {
     Call(Noted),
     /// Something to be told, which changes nothing.
     Tell(Question),
-}
-
-/// What is to be told of a node.
-#[derive(Clone, Copy, PartialEq, Eq)]
-pub(crate) enum Question {
-    /// The answer to this number of a pharmacy.
-    Answer(u64),
-    /// How many entries, slots or rows the node has.
-    Count,
-    /// The entries of a pharmacy without an answer, the oldest first: from this number on, this many at most.
-    Open(u64, u64),
-    /// The row of this number of a payer's book, from 1.
-    Row(u64),
-    /// The payments of a pharmacy or a payer: from the one of this number on, this many at most.
-    Payments(u64, u64),
 }
 
 /// What a line asks; `None` where it spells nothing.
@@ -182,60 +165,6 @@ fn reference_of(name: Vec<u8>) -> Option<Octets>
     } else {
         None
     }
-}
-
-/// What a line asks to be told.
-#[tactic(auto, unfolding(crate::specs::Asking::question_of))]
-fn question_of(line: &[u8]) -> Option<Question>
-    ensures { result ≡ question_of line.now }
-{
-    match split_word(line) {
-        Some((word, rest)) => question_with(word, rest),
-        None => plain_question(line),
-    }
-}
-
-/// The question of a word and what stands after it.
-fn question_with(word: &[u8], rest: &[u8]) -> Option<Question>
-    ensures { result ≡ question_with word.now rest.now }
-{
-    if word == b"answer".as_slice() {
-        let number = read_decimal(rest, MOST_NUMBER_DIGITS)?;
-        return Some(Question::Answer(number));
-    }
-    if word == b"row".as_slice() {
-        let number = read_decimal(rest, MOST_NUMBER_DIGITS)?;
-        return Some(Question::Row(number));
-    }
-    let (number, count) = range_in(rest)?;
-    if word == b"open".as_slice() {
-        return Some(Question::Open(number, count));
-    }
-    if word == b"payments".as_slice() {
-        return Some(Question::Payments(number, count));
-    }
-    None
-}
-
-/// The question that is one word.
-fn plain_question(line: &[u8]) -> Option<Question>
-    ensures { result ≡ plain_question line.now }
-{
-    if line == b"count".as_slice() {
-        return Some(Question::Count);
-    }
-    None
-}
-
-/// From which number on, and how many.
-#[tactic(auto, unfolding(crate::specs::Asking::range_in))]
-fn range_in(rest: &[u8]) -> Option<(u64, u64)>
-    ensures { result ≡ range_in rest.now }
-{
-    let (first, behind) = split_word(rest)?;
-    let number = read_decimal(first, MOST_NUMBER_DIGITS)?;
-    let count = read_decimal(behind, MOST_NUMBER_DIGITS)?;
-    Some((number, count))
 }
 
 /// The call that a line spells; `None` where it spells none.

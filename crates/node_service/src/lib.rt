@@ -16,6 +16,7 @@ mod most;
 mod opening;
 mod payment_lines;
 mod payments;
+mod questions;
 mod references;
 mod service;
 mod sharing;

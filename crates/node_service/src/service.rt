@@ -15,9 +15,10 @@ ghost use Rattle.node_service.specs.Asking.{Calls, noted_seen};
 ghost use Rattle.node_state.specs.Nodes.{request_of};
 
 use crate::answering::{put_idle, put_known, put_refused};
-use crate::asking::{Asked, Noted, Question, asked_of};
+use crate::asking::{Asked, Noted, asked_of};
 use crate::idle::is_idle_call;
 use crate::most::most_of;
+use crate::questions::Question;
 use crate::references::References;
 use crate::sharing::SharedSettings;
 use crate::telling::{put_made, put_told};

@@ -12,11 +12,11 @@ ghost use Rattle.node_state.specs.Nodes.{book_of};
 ghost use Rattle.node_service.specs.Serving.{answer_of, answer_text, last_line, made_lines, told_of};
 
 use crate::answering::{put_answer, put_done, put_number, put_sent};
-use crate::asking::Question;
 use crate::book_row::put_row_in;
 use crate::listing::{put_count, put_end, put_open};
 use crate::payment_lines::{put_book_page, put_payments};
 use crate::payments::{journal_payments, page};
+use crate::questions::Question;
 use envelope::TxnId;
 use node_log::Record;
 use node_state::{JournalReading, NodeState};
