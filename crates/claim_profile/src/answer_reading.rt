@@ -150,6 +150,7 @@ enum Speaker {
 }
 
 /// Reads an answer of this speaker, its rulings into a list whose memory is used again.
+#[tactic(auto, using(crate::proofs::RulingList::framing_fails))]
 fn read_said(by: Speaker, list: Vec<Ruling>, bytes: &[u8]) -> Result<Answer, AnswerFault>
     ensures read { IfOk result (λ answer. said_by by bytes.now ≡ Ok answer) }
     ensures fault { IfErr result (λ fault. FailsAs fault (said_by by bytes.now)) }
@@ -164,6 +165,7 @@ fn read_said(by: Speaker, list: Vec<Ruling>, bytes: &[u8]) -> Result<Answer, Ans
 }
 
 /// Tells whether bytes are an answer, as [`read_answer`] does, and gives its header. Takes no memory.
+#[tactic(auto, using(crate::proofs::RulingList::framing_fails))]
 pub fn check_answer(bytes: &[u8]) -> Result<ResponseHeader, AnswerFault>
     ensures read { IfOk result (λ header. (rulings : List Ruling)
         × (answer_of bytes.now ≡ Ok (record { header = header; rulings = rulings }))) }
@@ -180,6 +182,7 @@ pub fn check_answer(bytes: &[u8]) -> Result<ResponseHeader, AnswerFault>
 }
 
 /// Tests the rulings of the groups after a place, this many, in order.
+#[tactic(auto, using(crate::proofs::RulingList::begins, crate::proofs::RulingList::is_done))]
 fn check_rulings(header: &ResponseHeader, from: Cursor<'_>, count: usize) -> Result<(), AnswerFault>
     requires { count ≡ length (groups_of from.bytes.now) }
     ensures read { OnOk result ((rulings : List Ruling)
@@ -197,6 +200,7 @@ fn check_rulings(header: &ResponseHeader, from: Cursor<'_>, count: usize) -> Res
 }
 
 /// The rulings of the groups after a place, this many, in order, in a list whose memory is used again.
+#[tactic(auto, using(crate::proofs::RulingList::begins, crate::proofs::RulingList::is_done))]
 fn rulings_of(
     by: Speaker,
     list: Vec<Ruling>,

@@ -156,6 +156,7 @@ impl<'a> AnswerValues<'a> {
 
     /// Counts the fields of the segments up to the next group, each in its own segment.
     #[inline(always)]
+    #[tactic(auto, using(crate::proofs::AnswerCounting::answer_next))]
     fn count_from(&mut self, from: Cursor<'a>)
         ensures { answer_seen self.new ≡ answer_counted (answer_seen self.old) (shared_of from.entry.bytes.now) }
     {

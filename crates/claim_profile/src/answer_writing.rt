@@ -38,7 +38,7 @@ pub fn write_answer(
 }
 
 /// Appends the answer that [`write_answer`] writes. Where memory is refused, a part of it may stand there.
-#[tactic(auto, unfolding(crate::specs::Answer::answer_text))]
+#[tactic(auto, unfolding(crate::specs::Answer::answer_text), using(std::proofs::lemmas::List::append_assoc, std::proofs::lemmas::List::take_all, crate::proofs::AnswerTexts::group_written))]
 pub fn put_answer(
     text: &mut Vec<u8>,
     header: &RequestHeader,
@@ -93,6 +93,7 @@ fn put_ruling(text: &mut Vec<u8>, ruling: &Ruling) -> Result<(), AllocError>
 }
 
 /// Appends the group of a paid claim.
+#[tactic(auto, using(crate::proofs::AnswerTexts::on_ok_also, crate::proofs::AnswerTexts::payment_written))]
 fn put_payment(
     text: &mut Vec<u8>,
     status: u8,
@@ -119,6 +120,7 @@ fn put_status(text: &mut Vec<u8>, status: u8, auth: Auth) -> Result<(), AllocErr
 }
 
 /// Appends the response claim segment (AM22).
+#[tactic(auto, using(crate::proofs::AnswerTexts::on_ok_also, crate::proofs::AnswerTexts::claim_written))]
 fn put_claim(text: &mut Vec<u8>, prescription: u64) -> Result<(), AllocError>
     ensures { OnOk result (text.new.items ≡ text.old.items ++ segment_text (claim_segment prescription)) }
 {
@@ -129,6 +131,7 @@ fn put_claim(text: &mut Vec<u8>, prescription: u64) -> Result<(), AllocError>
 }
 
 /// Appends the response pricing segment (AM23).
+#[tactic(auto, using(crate::proofs::AnswerTexts::on_ok_also, crate::proofs::AnswerTexts::pricing_written))]
 fn put_pricing(text: &mut Vec<u8>, amounts: Amounts) -> Result<(), AllocError>
     ensures { OnOk result (text.new.items ≡ text.old.items ++ segment_text (pricing_segment amounts)) }
 {
@@ -165,6 +168,7 @@ fn put_front(text: &mut Vec<u8>, bytes: &[u8], count: usize) -> Result<(), Alloc
 }
 
 /// Appends the group of a rejection.
+#[tactic(auto, using(std::proofs::lemmas::List::take_all, crate::proofs::AnswerTexts::rejects_written))]
 fn put_rejects(text: &mut Vec<u8>, rejects: &Rejects) -> Result<(), AllocError>
     ensures { OnOk result (text.new.items ≡ text.old.items ++ group_text (reject_segment rejects.now ∷ [])) }
 {

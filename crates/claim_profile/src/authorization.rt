@@ -71,6 +71,7 @@ impl Auth {
     }
 
     /// The sixteen digits of the number (own): four of the payer, then twelve of the serial.
+    #[tactic(auto, using(crate::proofs::AuthorizationLemmas::digits_joined, crate::proofs::AuthorizationLemmas::twelve_left, crate::proofs::AuthorizationLemmas::zeros_behind))]
     pub fn digits(self) -> [u8; 16]
         ensures { result ≡ authorization_text self }
     {
@@ -108,6 +109,7 @@ fn authorization(payer: u64, serial: u64) -> Option<Auth>
 }
 
 /// Writes the last decimal digits of a number over zeros, as many as there is room.
+#[tactic(auto, unfolding(crate::specs::Authorization::padded_number))]
 fn put_digits(number: u64, digits: &mut [u8])
     requires { digits.old ≡ replicate (length digits.old) 48 }
     ensures { digits.new ≡ padded_number (length digits.old) number }

@@ -12,6 +12,7 @@ use d0_segments::request_laws;
 use overpunch::{amount_reads_back, number_reads_back};
 
 /// A billing of parts as callers hand them is read again, and its order is a claim with those parts.
+#[tactic(auto, using(crate::proofs::BuiltOrders::billing_order))]
 pub fn billing_laws()
     ensures again { (b : Billing) → IsBilling b → transmission_of request_kind (billing_text b)
         ≡ Some (billing_parts b) }
@@ -29,6 +30,7 @@ pub fn billing_laws()
 
 /// A reversal of parts as callers hand them is read again, and its order is a reversal with those
 /// parts.
+#[tactic(auto, using(crate::proofs::BuiltOrders::reversal_order_is))]
 pub fn reversal_laws()
     ensures again { (r : Reversing) → IsReversing r → transmission_of request_kind (reversal_text r)
         ≡ Some (reversal_parts r) }

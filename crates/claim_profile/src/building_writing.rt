@@ -43,6 +43,7 @@ pub fn write_reversal(alloc: Global, parts: &ReversalParts<'_>) -> Result<Vec<u8
 }
 
 /// Appends the insurance segment (AM04).
+#[tactic(auto, using(crate::proofs::AnswerTexts::on_ok, crate::proofs::BuildingTexts::insurance_written))]
 fn put_insurance(text: &mut Vec<u8>, cardholder: &[u8]) -> Result<(), AllocError>
     ensures { OnOk result (text.new.items ≡ text.old.items ++ segment_text (insurance_segment cardholder.now)) }
 {
@@ -87,6 +88,7 @@ fn put_quantity(text: &mut Vec<u8>, quantity: u64) -> Result<(), AllocError>
 }
 
 /// Appends the pricing segment (AM11).
+#[tactic(auto, using(crate::proofs::AnswerTexts::on_ok_also, crate::proofs::BuildingTexts::submitted_written))]
 fn put_pricing(text: &mut Vec<u8>, cost: Amount, fee: Amount) -> Result<(), AllocError>
     ensures { OnOk result (text.new.items ≡ text.old.items ++ segment_text (submitted_segment cost fee)) }
 {

@@ -63,6 +63,7 @@ impl<'a> Found<'a> {
 }
 
 /// The bytes without the spaces at their end.
+#[tactic(auto, using(crate::proofs::Trimming::trimmed_space, crate::proofs::Trimming::trimmed_last, crate::proofs::Trimming::front_with_last))]
 pub fn trimmed(bytes: &[u8]) -> &[u8]
     ensures { result.now ≡ trimmed bytes.now }
 {

@@ -17,6 +17,7 @@ use overpunch::{amount_reads_back, number_reads_back};
 
 /// An answer to a request of a sound header, with one ruling for each transaction that it counts, fits into
 /// an envelope and is read as its own header and exactly these rulings.
+#[tactic(auto, using(crate::proofs::WrittenAnswers::answer_short, crate::proofs::WrittenAnswers::answer_reads))]
 pub fn answer_laws()
     ensures short { (h : Request) (status : HeaderStatus) (rulings : List Ruling) → Answers h status rulings
         → length (answer_text h status rulings) ≤ longest_request }
@@ -30,11 +31,13 @@ pub fn answer_laws()
 }
 
 /// What is read of a book's answer is read of it as an advice too, but for its authorization numbers.
+#[tactic(auto, using(crate::proofs::Unnamed::parts_same))]
 pub fn advice_laws()
     ensures { (bytes : List ℕ) (a : AnswerParts) → answer_of bytes ≡ Ok a → advice_of bytes ≡ Ok (unnamed_parts a) }
 {}
 
 /// The fixed rejection of a request that is routed nowhere, code 01 for each transaction, is such an answer.
+#[tactic(auto, using(crate::proofs::CarriedHeaders::unrouted_answers))]
 pub fn unrouted_laws()
     ensures short { (h : Request) → IsRequest h → length (unrouted_text h) ≤ longest_request }
     ensures reads_back { (h : Request) → IsRequest h → answer_of (unrouted_text h)

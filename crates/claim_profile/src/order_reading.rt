@@ -120,6 +120,7 @@ fn not_covered() -> Result<Order, OrderFault>
 
 /// The claim of these values.
 #[inline(always)]
+#[tactic(auto, using(crate::proofs::OrderLemmas::claim_fields_are, crate::proofs::OrderLemmas::claim_order_ok, crate::proofs::OrderLemmas::claim_order_rejected, crate::proofs::OrderLemmas::claim_code))]
 fn claim_of(header: &RequestHeader, values: &OrderValues<'_>) -> Result<Order, OrderFault>
     ensures { (shared group : List SegmentParts) → order_seen values.now ≡ claim_counted shared group
         → result ≡ claim_order header.now shared group }
@@ -140,6 +141,7 @@ fn claim_rejects(header: &RequestHeader, values: &OrderValues<'_>) -> Rejects
 }
 
 /// The reversal of these values.
+#[tactic(auto, using(crate::proofs::OrderLemmas::reversal_code))]
 fn reversal_of(header: &RequestHeader, values: &OrderValues<'_>) -> Result<Order, OrderFault>
     ensures { (shared group : List SegmentParts) → order_seen values.now ≡ claim_counted shared group
         → result ≡ reversal_order header.now group }

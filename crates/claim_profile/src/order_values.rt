@@ -77,6 +77,7 @@ impl<'a> OrderValues<'a> {
     }
 
     /// Counts the fields of a segment.
+    #[tactic(auto, using(crate::proofs::OrderCounting::shared_here, crate::proofs::OrderCounting::shared_elsewhere, crate::proofs::OrderCounting::group_claim, crate::proofs::OrderCounting::group_pricing, crate::proofs::OrderCounting::group_elsewhere))]
     fn count_segment(&mut self, level: Level, segment: &Segment<'a>)
         ensures { order_seen self.new ≡ segments_counted level (order_seen self.old) (segment_parts segment.now ∷ []) }
     {

@@ -33,6 +33,7 @@ pub enum RequestFault {
 ///
 /// # Errors
 /// `Unreadable` for every other text; `OutOfMemory` may stand in place of any answer.
+#[tactic(auto, using(crate::proofs::ReadableLemmas::long_text, crate::proofs::ReadableLemmas::framing_refuses))]
 pub fn read_readable(
     alloc: Global,
     request: &[u8],
@@ -59,6 +60,7 @@ pub fn read_readable(
 
 /// Tells whether this product carries a request, as [`read_readable`] does, without building it. Takes
 /// no memory.
+#[tactic(auto, using(crate::proofs::ReadableLemmas::long_text, crate::proofs::ReadableLemmas::fault_refuses))]
 pub fn check_readable(request: &[u8]) -> Option<Framed<'_, RequestHeader>>
     // What was read is the transmission of these bytes.
     ensures parts { IfSome result (λ framed. transmission_of request_kind request.now ≡ Some (framed_parts framed)) }

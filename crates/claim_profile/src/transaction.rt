@@ -43,6 +43,7 @@ impl TransactionCode {
 }
 
 /// What is written as a code is read as it, and nothing else is.
+#[tactic(auto, using(crate::proofs::TransactionLemmas::reads_back, crate::proofs::TransactionLemmas::only))]
 pub fn transaction_laws()
     ensures reads_back { (kind : TransactionCode) → transaction_code (code_bytes kind) ≡ Some kind }
     ensures only { (bytes : List ℕ) (kind : TransactionCode) → transaction_code bytes ≡ Some kind

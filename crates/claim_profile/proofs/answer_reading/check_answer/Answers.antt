@@ -3,11 +3,8 @@ use Rattle.std.proofs.lemmas.Result.{err_from_is_err_and}
 use Rattle.d0_header.specs.Response.{Response}
 use Rattle.d0_segments.specs.FramedParts.{framed_parts}
 use Rattle.claim_profile.specs.declared.answer_reading.Speaker.TheVariants.{Book}
-use Rattle.claim_profile.proofs.RulingList.{framing_fails, answer_is, answer_err, an_answer}
+use Rattle.claim_profile.proofs.RulingList.{answer_is, answer_err, an_answer}
 use Rattle.claim_profile.proofs.answer_reading.check_answer.Goals as goal
-
-pub returns-in-Err-clause-fault : goal.returns-in-Err-clause-fault
-returns-in-Err-clause-fault c = framing_fails Book c.args.bytes.now c.in-Err.field-0 (sym c.in-Err.ensures.fault)
 
 pub returns-in_err-check_rulings-clause-fault : goal.returns-in_err-check_rulings-clause-fault
 returns-in_err-check_rulings-clause-fault c =

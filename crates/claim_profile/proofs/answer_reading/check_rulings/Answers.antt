@@ -4,14 +4,8 @@ use Rattle.d0_segments.specs.Parts.{SegmentParts}
 use Rattle.d0_segments.specs.Pieces.{shared_of, groups_of}
 use Rattle.claim_profile.specs.declared.answer_reading.Speaker.TheVariants.{Book}
 use Rattle.claim_profile.specs.Ruling.{rulings_in}
-use Rattle.claim_profile.proofs.RulingList.{begins, goes_on, ends, is_done}
+use Rattle.claim_profile.proofs.RulingList.{goes_on, ends}
 use Rattle.claim_profile.proofs.answer_reading.check_rulings.Goals as goal
-
-pub loop-group-init : goal.loop-group-init
-loop-group-init c = record {
-  read = ([], begins (rulings_in Book c.args.header.now (groups_of c.args.from.bytes.now)));
-  left = c.requires;
-}
 
 pub returns-in_err-_ruling-clause-fault : goal.returns-in_err-_ruling-clause-fault
 returns-in_err-_ruling-clause-fault c =
@@ -30,7 +24,3 @@ loop-group-preserved c =
       read = (l.invariant.read.0 ++ r ∷ [], goes_on Book h l.invariant.read.0 (groups_of l.rest.bytes.now) (groups_of group) (shared_of group) r (rulings_in Book h (groups_of c.args.from.bytes.now)) c.in-Some.ensures.groups c.in_ok-_ruling.ensures l.invariant.read.1);
       left = omega (arith, l.invariant.left, ap (λ (gs : List (List SegmentParts)). length gs) c.in-Some.ensures.groups);
     }
-
-pub returns-clause-read : goal.returns-clause-read
-returns-clause-read c =
-    (c.loop-group.invariant.read.0, is_done Book c.args.header.now c.loop-group.invariant.read.0 (groups_of c.loop-group.rest.bytes.now) (rulings_in Book c.args.header.now (groups_of c.args.from.bytes.now)) c.in_default.ensures.groups c.loop-group.invariant.read.1)

@@ -2,11 +2,8 @@ use Rattle.std.proofs.Common.{ap, sym, ◌∙◌}
 use Rattle.std.proofs.lemmas.Result.{err_from_is_err_and}
 use Rattle.d0_header.specs.Response.{Response}
 use Rattle.d0_segments.specs.FramedParts.{framed_parts}
-use Rattle.claim_profile.proofs.RulingList.{framing_fails, answer_is, answer_fails, an_answer}
+use Rattle.claim_profile.proofs.RulingList.{answer_is, answer_fails, an_answer}
 use Rattle.claim_profile.proofs.answer_reading.read_said.Goals as goal
-
-pub returns-in-Err-clause-fault : goal.returns-in-Err-clause-fault
-returns-in-Err-clause-fault c = framing_fails c.args.by c.args.bytes.now c.in-Err.field-0 (sym c.in-Err.ensures.fault)
 
 pub returns-in_err-rulings-clause-fault : goal.returns-in_err-rulings-clause-fault
 returns-in_err-rulings-clause-fault c =

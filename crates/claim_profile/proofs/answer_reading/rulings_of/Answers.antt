@@ -3,14 +3,8 @@ use Rattle.std.proofs.lemmas.Result.{err_from_is_err_and}
 use Rattle.d0_segments.specs.Parts.{SegmentParts}
 use Rattle.d0_segments.specs.Pieces.{shared_of, groups_of}
 use Rattle.claim_profile.specs.Ruling.{rulings_in}
-use Rattle.claim_profile.proofs.RulingList.{begins, goes_on, ends, fails, is_done}
+use Rattle.claim_profile.proofs.RulingList.{goes_on, ends, fails}
 use Rattle.claim_profile.proofs.answer_reading.rulings_of.Goals as goal
-
-pub loop-group-init : goal.loop-group-init
-loop-group-init c = record {
-  read = rw c.clear.ensures.items (begins (rulings_in c.args.by c.args.header.now (groups_of c.args.from.bytes.now)));
-  left = c.requires;
-}
 
 pub returns-in_err-ruling-clause-fault : goal.returns-in_err-ruling-clause-fault
 returns-in_err-ruling-clause-fault c =
@@ -31,7 +25,3 @@ loop-group-preserved c =
           (goes_on c.args.by h l.rulings.items (groups_of l.rest.bytes.now) (groups_of group) (shared_of group) c.in_ok-ruling.ruling (rulings_in c.args.by h (groups_of c.args.from.bytes.now)) c.in-Some.ensures.groups c.in_ok-ruling.ensures l.invariant.read);
       left = omega (arith, l.invariant.left, ap (λ (gs : List (List SegmentParts)). length gs) c.in-Some.ensures.groups);
     }
-
-pub returns-clause-read : goal.returns-clause-read
-returns-clause-read c =
-    is_done c.args.by c.args.header.now c.loop-group.rulings.items (groups_of c.loop-group.rest.bytes.now) (rulings_in c.args.by c.args.header.now (groups_of c.args.from.bytes.now)) c.in_default.ensures.groups c.loop-group.invariant.read

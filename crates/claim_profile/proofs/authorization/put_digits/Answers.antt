@@ -15,12 +15,6 @@ loop-place-preserved c =
       written = digit_written place c.loop-place.rest digits _ (omega arith) (omega arith) c.loop-place.invariant.written;
     }
 
-pub returns : goal.returns
-unfolding padded_number
-returns c =
-    let none : c.loop-place.place ≡ 0 = omega arith in
-    ap (λ n. padded_number n c.loop-place.rest ++ drop n c.loop-place.digits) (sym none) ∙ c.loop-place.invariant.written
-
 pub returns-then-rest-eq0 : goal.returns-then-rest-eq0
 returns-then-rest-eq0 c =
     let l = c.loop-place in

@@ -1,15 +1,11 @@
 use Rattle.claim_profile.specs.Building.{reversal_parts, reversal_text}
 use Rattle.claim_profile.proofs.BuiltFrames.{reversal_framed}
-use Rattle.claim_profile.proofs.BuiltOrders.{reversal_order_is}
 use Rattle.claim_profile.proofs.BuiltLengths.{reversal_readable}
 use Rattle.claim_profile.proofs.building_laws.reversal_laws.Goals as goal
 
 pub returns-clause-again : goal.returns-clause-again
 unfolding reversal_text
 returns-clause-again c = λ r is. c.request_laws.ensures.again (reversal_parts r) (reversal_framed r is)
-
-pub returns-clause-order : goal.returns-clause-order
-returns-clause-order c = reversal_order_is c.number_reads_back.ensures
 
 pub returns-clause-readable : goal.returns-clause-readable
 unfolding reversal_text

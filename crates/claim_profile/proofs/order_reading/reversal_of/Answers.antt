@@ -1,11 +1,8 @@
 use Rattle.std.proofs.Common.{◌≡◌, None, ap, ◌∙◌}
 use Rattle.claim_profile.specs.Order.{reversal_fields, or_rejected}
 use Rattle.claim_profile.specs.OrderTally.{order_seen}
-use Rattle.claim_profile.proofs.OrderLemmas.{reversal_fields_are, reversal_order_ok, reversal_order_rejected, reversal_code}
+use Rattle.claim_profile.proofs.OrderLemmas.{reversal_fields_are, reversal_order_ok, reversal_order_rejected}
 use Rattle.claim_profile.proofs.order_reading.reversal_of.Goals as goal
-
-pub rejects-requires : goal.rejects-requires
-rejects-requires c = let f = c.of-fields.result in reversal_code c.args.header.now f.date f.prescription f.fill c.in-None.ensures
 
 pub returns-in-Some : goal.returns-in-Some
 returns-in-Some c = λ shared group seen.

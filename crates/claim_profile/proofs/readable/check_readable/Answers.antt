@@ -1,14 +1,8 @@
 use Rattle.std.proofs.Common.{sym, ◌∙◌, ap, true, false}
 use Rattle.d0_segments.specs.FramedParts.{framed_parts}
 use Rattle.claim_profile.specs.Readable.{is_carried}
-use Rattle.claim_profile.proofs.ReadableLemmas.{long_text, fault_refuses, framed_text}
+use Rattle.claim_profile.proofs.ReadableLemmas.{framed_text}
 use Rattle.claim_profile.proofs.readable.check_readable.Goals as goal
-
-pub returns-then-request-gt-LONGEST_REQUEST-clause-readable : goal.returns-then-request-gt-LONGEST_REQUEST-clause-readable
-returns-then-request-gt-LONGEST_REQUEST-clause-readable c = long_text c.args.request.now c.if-request-gt-LONGEST_REQUEST.true
-
-pub returns-in-Err-clause-readable : goal.returns-in-Err-clause-readable
-returns-in-Err-clause-readable c = fault_refuses c.args.request.now c.in-Err.field-0 (sym c.in-Err.ensures.fault)
 
 pub returns-then-is_carried-clause-readable : goal.returns-then-is_carried-clause-readable
 returns-then-is_carried-clause-readable c =

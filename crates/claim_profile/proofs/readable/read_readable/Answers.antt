@@ -1,14 +1,8 @@
 use Rattle.std.proofs.Common.{sym, ◌∙◌, ap, true, false}
 use Rattle.d0_segments.specs.Transmissions.{transmission_parts}
 use Rattle.claim_profile.specs.Readable.{is_carried}
-use Rattle.claim_profile.proofs.ReadableLemmas.{long_text, framing_refuses, framed_text}
+use Rattle.claim_profile.proofs.ReadableLemmas.{framed_text}
 use Rattle.claim_profile.proofs.readable.read_readable.Goals as goal
-
-pub returns-then-request-gt-LONGEST_REQUEST-clause-fault : goal.returns-then-request-gt-LONGEST_REQUEST-clause-fault
-returns-then-request-gt-LONGEST_REQUEST-clause-fault c = long_text c.args.request.now c.if-request-gt-LONGEST_REQUEST.true
-
-pub returns-in-Err-clause-fault : goal.returns-in-Err-clause-fault
-returns-in-Err-clause-fault c = rw c.fault_of_framing.ensures (framing_refuses c.args.request.now c.in-Err.fault c.in-Err.ensures.fault)
 
 pub returns-then-is_carried-clause-readable : goal.returns-then-is_carried-clause-readable
 returns-then-is_carried-clause-readable c =

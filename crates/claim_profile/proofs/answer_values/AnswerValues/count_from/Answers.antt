@@ -1,21 +1,7 @@
-use Rattle.std.proofs.Common.{◌∷◌, [], ap, sym, ◌∙◌}
-use Rattle.d0_segments.specs.Parts.{SegmentParts}
-use Rattle.d0_segments.specs.Pieces.{shared_of}
-use Rattle.d0_segments.specs.Inside.{fields_left}
+use Rattle.std.proofs.Common.{ap, sym, ◌∙◌}
 use Rattle.claim_profile.specs.AnswerTally.{answer_seen, answer_counted}
-use Rattle.claim_profile.proofs.AnswerCounting.{answer_counted-none, answer_next}
+use Rattle.claim_profile.proofs.AnswerCounting.{answer_counted-none}
 use Rattle.claim_profile.proofs.answer_values.AnswerValues.count_from.Goals as goal
-
-pub loop-segment-preserved : goal.loop-segment-preserved
-loop-segment-preserved c =
-    let l = c.loop-segment in
-    let s = c.in-Some.segment in
-    let next : SegmentParts = record { id = s.first ∷ s.second ∷ []; fields = fields_left s.fields.bytes.now } in
-    let here = rw (c.id.ensures, c.fields.ensures) at c.count_inside-rest.ensures.values in
-    let later = rw c.fields.ensures at c.count_inside-rest.ensures.segments in
-    ap (answer_counted (answer_seen c.count_inside-rest.new.self)) (sym later)
-    ∙ answer_next (answer_seen l.self) (answer_seen c.count_inside-rest.new.self) next (shared_of s.fields.bytes.now) here
-    ∙ ap (answer_counted (answer_seen l.self)) (sym c.in-Some.ensures.segments) ∙ l.invariant
 
 pub returns : goal.returns
 returns c =
