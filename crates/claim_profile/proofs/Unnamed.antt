@@ -7,8 +7,8 @@ use Rattle.d0_segments.specs.Framing.{response_kind, transmission_of}
 use Rattle.claim_profile.specs.declared.reject.Code.{Code}
 use Rattle.claim_profile.specs.declared.ruling.Ruling.{Ruling}
 use Rattle.claim_profile.specs.declared.ruling.Ruling.TheVariants.{Paid, Duplicate, Reversed, Rejected}
-use Rattle.claim_profile.specs.declared.answer_reading.Status.{Status}
-use Rattle.claim_profile.specs.declared.answer_reading.Status.TheVariants as status
+use Rattle.claim_profile.specs.declared.answer_status.Status.{Status}
+use Rattle.claim_profile.specs.declared.answer_status.Status.TheVariants as status
 use Rattle.claim_profile.specs.declared.answer_reading.Speaker.{Speaker}
 use Rattle.claim_profile.specs.declared.answer_reading.Speaker.TheVariants.{Book, System}
 use Rattle.claim_profile.specs.declared.answer_reading.AnswerFault.{AnswerFault}

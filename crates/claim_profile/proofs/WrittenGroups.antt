@@ -15,7 +15,7 @@ use Rattle.claim_profile.specs.declared.ruling.Ruling.{Ruling}
 use Rattle.claim_profile.specs.declared.ruling.Ruling.TheVariants.{Paid, Duplicate, Reversed, Rejected}
 use Rattle.claim_profile.specs.declared.ruling.HeaderStatus.{HeaderStatus}
 use Rattle.claim_profile.specs.declared.ruling.HeaderStatus.TheVariants as header
-use Rattle.claim_profile.specs.declared.answer_reading.Status.TheVariants as status
+use Rattle.claim_profile.specs.declared.answer_status.Status.TheVariants as status
 use Rattle.claim_profile.specs.declared.answer_reading.Speaker.TheVariants as speaker
 use Rattle.claim_profile.specs.declared.answer_reading.AnswerFault.TheVariants.{BadAmount, BadAuthorization, BadRejects, BadClaim}
 use Rattle.claim_profile.specs.Authorization.{Authorization, IsAuthorization, authorization_text, authorization_of}

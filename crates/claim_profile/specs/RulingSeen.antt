@@ -5,8 +5,8 @@ use Rattle.d0_segments.specs.Parts.{FieldParts, SegmentParts}
 use Rattle.claim_profile.specs.declared.reject.Code.{Code}
 use Rattle.claim_profile.specs.declared.ruling.Ruling.{Ruling}
 use Rattle.claim_profile.specs.declared.ruling.Ruling.TheVariants as ruling
-use Rattle.claim_profile.specs.declared.answer_reading.Status.{Status}
-use Rattle.claim_profile.specs.declared.answer_reading.Status.TheVariants as status
+use Rattle.claim_profile.specs.declared.answer_status.Status.{Status}
+use Rattle.claim_profile.specs.declared.answer_status.Status.TheVariants as status
 use Rattle.claim_profile.specs.declared.answer_reading.Speaker.{Speaker}
 use Rattle.claim_profile.specs.declared.answer_reading.Speaker.TheVariants as speaker
 use Rattle.claim_profile.specs.declared.answer_reading.AnswerFault.{AnswerFault}

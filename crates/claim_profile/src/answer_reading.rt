@@ -6,15 +6,15 @@ ghost use Rattle.d0_segments.specs.Cursors.{FindsGroup};
 ghost use Rattle.claim_profile.specs.Tally.{seen};
 ghost use Rattle.claim_profile.specs.Money.{largest};
 ghost use Rattle.claim_profile.specs.AnswerTally.{answer_seen};
-ghost use Rattle.claim_profile.specs.Ruling.{ruling_in, rulings_in, said_by, answer_of, advice_of, FailsAs, status_of, again_by, status_by, stands_beside, stands_under};
-ghost use Rattle.claim_profile.specs.RulingSeen.{ruled_seen, status_seen, payment_seen, authorization_seen, claim_number_seen, fee_said, money_seen, all_money_seen, rejection_in, or_rejection};
+ghost use Rattle.claim_profile.specs.Ruling.{ruling_in, rulings_in, said_by, answer_of, advice_of, FailsAs};
+ghost use Rattle.claim_profile.specs.RulingSeen.{ruled_seen, payment_seen, authorization_seen, claim_number_seen, fee_said, money_seen, all_money_seen, rejection_in, or_rejection};
 ghost use Rattle.claim_profile.specs.declared.answer_reading.AnswerFault.TheVariants.{OutOfMemory};
 ghost use Rattle.claim_profile.specs.declared.answer_reading.Speaker.TheVariants.{Book};
 
+use crate::answer_status::{Status, status_beside};
 use crate::answer_values::{AnswerValues, FoundCodes};
 use crate::authorization::Auth;
 use crate::found::Found;
-use crate::names::is_same;
 use crate::paid::Amounts;
 use crate::ruling::Ruling;
 use crate::values::{cents, cents_if_given, is_exactly, number};
@@ -142,7 +142,7 @@ pub fn read_answer_into(list: Vec<Ruling>, bytes: &[u8]) -> Result<Answer, Answe
 
 /// Who gives an answer.
 #[derive(Clone, Copy)]
-enum Speaker {
+pub(crate) enum Speaker {
     /// A payer's book: its authorization numbers are read.
     Book,
     /// A payer's own system: its authorization numbers are not looked at, a fee may be left out, and `S` is a status.
@@ -239,15 +239,6 @@ fn next_group(rest: Cursor<'_>, left: usize) -> Option<Cursor<'_>>
     rest.group()
 }
 
-/// The status of a transaction (112-AN).
-#[derive(Clone, Copy, PartialEq, Eq)]
-enum Status {
-    Paid,
-    Duplicate,
-    Reversed,
-    Rejected,
-}
-
 /// The ruling that the segments of one transaction spell. Takes no memory.
 fn ruling(by: Speaker, header: &ResponseHeader, group: Cursor<'_>) -> Result<Ruling, AnswerFault>
     ensures { result ≡ ruling_in by header.now (shared_of group.entry.bytes.now) }
@@ -302,76 +293,6 @@ fn ruled(
             Ok(Some(Ruling::Reversed { auth, prescription }))
         }
         Status::Rejected => Ok(None),
-    }
-}
-
-/// The status of the transaction, where it may stand beside the header.
-fn status_beside(
-    by: Speaker,
-    header: &ResponseHeader,
-    found: Found<'_>,
-) -> Result<Status, AnswerFault>
-    ensures { result ≡ status_seen by header.now (seen found.entry) }
-{
-    let Some(text) = found.one() else {
-        return Err(AnswerFault::NoStatus);
-    };
-    match status_by(by, text) {
-        Some(status) if stands_beside(header, status) => Ok(status),
-        _ => Err(AnswerFault::BadStatus),
-    }
-}
-
-/// The status that a text of this speaker spells.
-fn status_by(by: Speaker, text: &[u8]) -> Option<Status>
-    ensures { result ≡ status_by by text.now }
-{
-    match status_of(text) {
-        Some(status) => Some(status),
-        None => again_by(by, text),
-    }
-}
-
-/// The status of what is said again: of a payer's own system `S`, of a reversal that it has approved before.
-fn again_by(by: Speaker, text: &[u8]) -> Option<Status>
-    ensures { result ≡ again_by by text.now }
-{
-    match by {
-        Speaker::Book => None,
-        Speaker::System => match text {
-            b"S" => Some(Status::Reversed),
-            _ => None,
-        },
-    }
-}
-
-fn status_of(text: &[u8]) -> Option<Status>
-    ensures { result ≡ status_of text.now }
-{
-    match text {
-        b"P" => Some(Status::Paid),
-        b"D" => Some(Status::Duplicate),
-        b"A" => Some(Status::Reversed),
-        b"R" => Some(Status::Rejected),
-        _ => None,
-    }
-}
-
-/// Whether the header has version `D0` and a status beside which this one may stand.
-fn stands_beside(header: &ResponseHeader, status: Status) -> bool
-    ensures { result ≡ stands_beside header.now status }
-{
-    is_same(header.version(), *b"D0") && stands_under(header.status(), status)
-}
-
-/// Whether a status may stand under this header response status (501-F1).
-fn stands_under(header: u8, status: Status) -> bool
-    ensures { result ≡ stands_under header status }
-{
-    match header {
-        b'A' => true,
-        b'R' => matches!(status, Status::Rejected),
-        _ => false,
     }
 }
 

@@ -3,6 +3,7 @@
 #![tactic(auto)]
 
 mod answer_reading;
+mod answer_status;
 mod answer_values;
 mod answer_writing;
 mod authorization;
