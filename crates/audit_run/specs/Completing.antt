@@ -5,7 +5,7 @@ use Rattle.claim_model.specs.Logs.{NodeLog}
 use Rattle.claim_model.specs.Node.{Node, Pharmacy, Switch, Payer}
 use Rattle.node_log.specs.LogSeen.{logs_seen}
 use Rattle.node_log.specs.declared.log.NodeLog.{NodeLog as Kept}
-use Rattle.switch_logs.specs.Made.{AreMadeUnder}
+use Rattle.switch_logs.specs.MadeLogs.{AreMadeUnder}
 use Rattle.log_audit.specs.declared.reading.Audited.{Audited}
 use Rattle.audit_run.specs.declared.completing.Judged.{Judged}
 

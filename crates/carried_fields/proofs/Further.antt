@@ -9,7 +9,7 @@ use Rattle.d0_segments.specs.Parts.{FieldParts, SegmentParts}
 use Rattle.claim_profile.specs.Fields.{is_filled, values, fields_of}
 use Rattle.carried_fields.specs.Occurrences.{behind_codes_in, beside}
 use Rattle.carried_fields.specs.Merging.{is_own, further_fields, merged_segment, merged_segments, has_segment, further_segments, merged}
-use Rattle.carried_fields.proofs.Beside.{occurrence_name, beside_unseen}
+use Rattle.carried_fields.proofs.CodeOccurrences.{occurrence_name, beside_unseen}
 
 pub bytes_same : (a b : List ℕ) → bytes_eq a b ≡ true → a ≡ b
 bytes_same a b e = (bytes_eq-Decides a b).0 e

@@ -1,5 +1,5 @@
 pub mod WellFramed
-pub mod Beside
+pub mod CodeOccurrences
 pub mod Further
 pub mod SameRulings
 pub mod MergedAgain

@@ -18,7 +18,7 @@ use Rattle.claim_profile.proofs.Counting.{fields_of-none}
 use Rattle.carried_fields.specs.Agreeing.{same_money, same_texts, agrees, agreed}
 use Rattle.carried_fields.specs.Occurrences.{is_occurrence, behind_codes, behind_codes_in, beside}
 use Rattle.carried_fields.specs.Merging.{further_fields, merged_segment, merged_segments, has_segment, further_segments, merged, carried_group, carried_groups}
-use Rattle.carried_fields.proofs.Beside.{beside_nothing, beside_again, beside_own, further_begin}
+use Rattle.carried_fields.proofs.CodeOccurrences.{beside_nothing, beside_again, beside_own, further_begin}
 use Rattle.carried_fields.proofs.Further.{identified, merged_here}
 
 -- what passed a test passes it again

@@ -6,10 +6,10 @@ use Rattle.std.specs.Ordering.{eq_by_cmp, nat_cmp}
 use Rattle.std.specs.List.{cons_option, filter_map, flat_map}
 use Rattle.std.specs.Map.{update, update_all}
 use Rattle.std.specs.BTreeMap.{BTreeMap, IsFromIterResult, get}
-use Rattle.claim_reports.specs.declared.beside.Counted.{Counted}
-use Rattle.claim_reports.specs.declared.beside.Made.{Made}
-use Rattle.claim_reports.specs.declared.beside.Entry.{Entry}
-use Rattle.claim_reports.specs.declared.beside.Finding.{Finding}
+use Rattle.claim_reports.specs.declared.differences.Counted.{Counted}
+use Rattle.claim_reports.specs.declared.differences.Made.{Made}
+use Rattle.claim_reports.specs.declared.differences.Entry.{Entry}
+use Rattle.claim_reports.specs.declared.differences.Difference.{Difference}
 use Rattle.claim_reports.specs.Comparing.{last_with, told, counted_finding, made_finding, findings, Findings}
 use Rattle.claim_reports.proofs.Adding.{at_nat}
 use Rattle.claim_reports.proofs.Snocs.{or_none}
@@ -32,16 +32,16 @@ pub last_is : {A : Type 0} (number : A → ℕ) (xs : List A) (by : BTreeMap ℕ
 last_is number xs by made n = made.0 n ∙ last_among number n xs (λ _. None) ∙ or_none (last_with number n xs)
 
 -- what is found of elements
-picked : {A : Type 0} (find : A → Option Finding) (xs : List A) → filter_map find xs ≡ flat_map (λ x. told (find x)) xs
+picked : {A : Type 0} (find : A → Option Difference) (xs : List A) → filter_map find xs ≡ flat_map (λ x. told (find x)) xs
 picked find [] = refl
-picked find (x ∷ more) = one (find x) (filter_map find more) ∙ ap (λ (found : List Finding). told (find x) ++ found) (picked find more)
+picked find (x ∷ more) = one (find x) (filter_map find more) ∙ ap (λ (found : List Difference). told (find x) ++ found) (picked find more)
   where
-    one : (o : Option Finding) (found : List Finding) → cons_option o found ≡ told o ++ found
+    one : (o : Option Difference) (found : List Difference) → cons_option o found ≡ told o ++ found
     one None found = refl
     one (Some f) found = refl
 
 -- what is found by maps is what is found of the lists
-pub found_is : (counted : List Counted) (entries : List Entry) (made : List Made) (held : BTreeMap ℕ Entry) (known : BTreeMap ℕ Counted) (paid : BTreeMap ℕ Made) (all : List Finding)
+pub found_is : (counted : List Counted) (entries : List Entry) (made : List Made) (held : BTreeMap ℕ Entry) (known : BTreeMap ℕ Counted) (paid : BTreeMap ℕ Made) (all : List Difference)
     → IsFromIterResult nat_cmp (map (λ (e : Entry). (e.number, e)) entries) held → IsFromIterResult nat_cmp (map (λ (c : Counted). (c.auth, c)) counted) known
     → IsFromIterResult nat_cmp (map (λ (m : Made). (m.auth, m)) made) paid
     → all ≡ filter_map (counted_finding (get nat_cmp held) (get nat_cmp paid)) counted ++ filter_map (made_finding (get nat_cmp held) (get nat_cmp known)) made

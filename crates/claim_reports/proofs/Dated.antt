@@ -7,7 +7,7 @@ use Rattle.std.specs.Ordering.{nat_cmp}
 use Rattle.table_text.specs.Rows.{head_text}
 use Rattle.claim_reports.specs.declared.daily.DailyRemittance.{DailyRemittance}
 use Rattle.claim_reports.specs.declared.daily.DailyRuling.{DailyRuling}
-use Rattle.claim_reports.specs.declared.ledger.Held.{Held}
+use Rattle.claim_reports.specs.declared.ledger.LedgerPayment.{LedgerPayment}
 use Rattle.claim_reports.specs.declared.ledger.Ledger.{Ledger}
 use Rattle.claim_reports.specs.declared.ledger.Move.{Move}
 use Rattle.claim_reports.specs.Causes.{records_of}
@@ -45,7 +45,7 @@ summed_is items (Ok text) table asked rulings kept before moves title read befor
 summed_is items (Err e) table asked rulings kept before moves title read before_is kept_is moves_is titled sums = tt
 
 -- what a ledger has of an authorization is what was paid under it
-cents_of_held : (o : Option ℕ) (gone : Bool) → cents_in (option_map (λ (c : ℕ). let h : Held = record { cents = c; reversed = gone } in h) o) ≡ unwrap_or o 0
+cents_of_held : (o : Option ℕ) (gone : Bool) → cents_in (option_map (λ (c : ℕ). let h : LedgerPayment = record { cents = c; reversed = gone } in h) o) ≡ unwrap_or o 0
 cents_of_held None gone = refl
 cents_of_held (Some c) gone = refl
 

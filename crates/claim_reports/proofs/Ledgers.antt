@@ -8,7 +8,7 @@ use Rattle.std.proofs.lemmas.List.{take_more, take_all, take-append-drop}
 use Rattle.std.proofs.lemmas.List.Sums.{sum_by-append}
 use Rattle.claim_reports.specs.declared.ledger.Move.{Move}
 use Rattle.claim_reports.specs.declared.ledger.Move.TheVariants.{Paid, Reversed}
-use Rattle.claim_reports.specs.declared.ledger.Held.{Held}
+use Rattle.claim_reports.specs.declared.ledger.LedgerPayment.{LedgerPayment}
 use Rattle.claim_reports.specs.declared.ledger.Ledger.{Ledger}
 use Rattle.claim_reports.specs.declared.ledger.Moved.{Moved}
 use Rattle.claim_reports.specs.Ledger.{paid_for, is_reversed, standing_cents, paid_cents, paid_total, back_cents, taken_back, held_at, IsLedgerOf, standing_in, Pays, Reverses, Takes, TakesAll}
@@ -21,11 +21,11 @@ held_alike q xs ys paid gone = λ i. option_map (λ (c : ℕ). record { cents = 
 held_is : (q c : ℕ) (r : Bool) (xs : List Move) → paid_for q xs ≡ Some c → is_reversed q xs ≡ r → held_at q xs ≡ Some (record { cents = c; reversed = r })
 held_is q c r xs paid gone = λ i. option_map (λ (k : ℕ). record { cents = k; reversed = gone i }) (paid i)
 
-no_held : (o : Option ℕ) (r : Bool) → option_map (λ (c : ℕ). let h : Held = record { cents = c; reversed = r } in h) o ≡ None → o ≡ None
+no_held : (o : Option ℕ) (r : Bool) → option_map (λ (c : ℕ). let h : LedgerPayment = record { cents = c; reversed = r } in h) o ≡ None → o ≡ None
 no_held None r e = refl
 no_held (Some c) r e = cc e
 
-pub stood_is : (o : Option ℕ) (r : Bool) (c : ℕ) → standing_in (option_map (λ (k : ℕ). let h : Held = record { cents = k; reversed = r } in h) o) ≡ Some c → (o ≡ Some c) × (r ≡ false)
+pub stood_is : (o : Option ℕ) (r : Bool) (c : ℕ) → standing_in (option_map (λ (k : ℕ). let h : LedgerPayment = record { cents = k; reversed = r } in h) o) ≡ Some c → (o ≡ Some c) × (r ≡ false)
 stood_is None r c e = absurd (cc e)
 stood_is (Some k) true c e = absurd (cc e)
 stood_is (Some k) false c e = (e, refl)

@@ -4,7 +4,7 @@ use Rattle.std.specs.Prelude.{codes}
 use Rattle.std.specs.Ordering.{nat_cmp}
 use Rattle.std.specs.BTreeMap.{BTreeMap, IsFromIterResult, get}
 use Rattle.table_text.specs.Rows.{head_text}
-use Rattle.claim_reports.specs.declared.beside.Entry.{Entry}
+use Rattle.claim_reports.specs.declared.differences.Entry.{Entry}
 use Rattle.claim_reports.specs.Compared.{AreEntries}
 use Rattle.claim_reports.specs.Replies.{Reply}
 use Rattle.claim_reports.specs.Received.{AreSent, AreReceipts, receipt_rows, is_nothing_found, IsReceived}

@@ -10,7 +10,7 @@ use Rattle.std.proofs.lemmas.List.Sums.{sum_by-append}
 use Rattle.claim_reports.specs.declared.fault.ReportFault.{ReportFault}
 use Rattle.claim_reports.specs.declared.ledger.Move.{Move}
 use Rattle.claim_reports.specs.declared.ledger.Move.TheVariants.{Paid, Reversed}
-use Rattle.claim_reports.specs.declared.ledger.Held.{Held}
+use Rattle.claim_reports.specs.declared.ledger.LedgerPayment.{LedgerPayment}
 use Rattle.claim_reports.specs.declared.ledger.Ledger.{Ledger}
 use Rattle.claim_reports.specs.declared.ledger.Moved.{Moved}
 use Rattle.claim_reports.specs.Causes.{Cause, NotStanding, PaidAgain, Tells}
@@ -53,7 +53,7 @@ reversing_is (Some c) standing number le = by_test (nat_lt standing c) refl
 pub taking_is : (xs : List Move) (l : Ledger) (number : ℕ) (m : Move) → IsLedgerOf xs l → taking_cause l number m ≡ move_cause xs number m
 taking_is xs l number (Paid a c) is =
     (λ i. if is_some (is.at a i) then Some (PaidAgain number) else over (is.standing i + c))
-    ∙ ap (λ (b : Bool). if b then Some (PaidAgain number) else over (standing_total xs + c)) (some_map (λ (k : ℕ). let h : Held = record { cents = k; reversed = is_reversed a xs } in h) (paid_for a xs))
+    ∙ ap (λ (b : Bool). if b then Some (PaidAgain number) else over (standing_total xs + c)) (some_map (λ (k : ℕ). let h : LedgerPayment = record { cents = k; reversed = is_reversed a xs } in h) (paid_for a xs))
 taking_is xs l number (Reversed a) is =
     (λ i. reversing_cause (standing_in (is.at a i)) (is.standing i) number)
     ∙ reversing_is (standing_in (held_at a xs)) (standing_total xs) number (λ c e.

@@ -4,12 +4,12 @@ use Rattle.std.specs.Option.{option_or}
 use Rattle.std.specs.List.{flat_map, list_all}
 use Rattle.table_text.specs.Members.{Row, Text, Flag, number_or_nothing}
 use Rattle.table_text.specs.Rows.{head_text, csv_row}
-use Rattle.claim_reports.specs.declared.beside.Figures.{Figures}
-use Rattle.claim_reports.specs.declared.beside.Counted.{Counted}
-use Rattle.claim_reports.specs.declared.beside.Made.{Made}
-use Rattle.claim_reports.specs.declared.beside.Entry.{Entry}
-use Rattle.claim_reports.specs.declared.beside.Finding.{Finding}
-use Rattle.claim_reports.specs.declared.beside.Finding.TheVariants.{NotPaid, Differs, Reversed, NotCounted}
+use Rattle.claim_reports.specs.declared.differences.Figures.{Figures}
+use Rattle.claim_reports.specs.declared.differences.Counted.{Counted}
+use Rattle.claim_reports.specs.declared.differences.Made.{Made}
+use Rattle.claim_reports.specs.declared.differences.Entry.{Entry}
+use Rattle.claim_reports.specs.declared.differences.Difference.{Difference}
+use Rattle.claim_reports.specs.declared.differences.Difference.TheVariants.{NotPaid, Differs, Reversed, NotCounted}
 use Rattle.claim_reports.specs.declared.sides.Between.{Between}
 use Rattle.claim_reports.specs.declared.sides.Parties.{Parties}
 use Rattle.claim_reports.specs.declared.sides.FigureColumns.{FigureColumns}
@@ -239,18 +239,18 @@ shown_row s =
     ∷ []
 
 -- what is shown of a finding
-abbrev pub shown : Finding → Shown
+abbrev pub shown : Difference → Shown
 shown (NotPaid auth f) = record { word = codes "not_paid"; auth = auth; counted = Some f.cents; paid = None; on_its_way = false; apart = alike }
 shown (Differs auth f g) = record { word = codes "differs"; auth = auth; counted = Some f.cents; paid = Some g.cents; on_its_way = false; apart = first_apart f g }
 shown (Reversed auth f is) = record { word = codes "reversed"; auth = auth; counted = Some f.cents; paid = None; on_its_way = is; apart = alike }
 shown (NotCounted auth f is) = record { word = codes "not_counted"; auth = auth; counted = None; paid = Some f.cents; on_its_way = is; apart = alike }
 
 -- a row for each finding
-abbrev pub finding_rows : List Finding → List ℕ
-finding_rows found = flat_map (λ (f : Finding). csv_row (shown_row (shown f))) found
+abbrev pub finding_rows : List Difference → List ℕ
+finding_rows found = flat_map (λ (f : Difference). csv_row (shown_row (shown f))) found
 
 -- the answer that would settle it may still be on its way
-abbrev pub is_on_its_way : Finding → Bool
+abbrev pub is_on_its_way : Difference → Bool
 is_on_its_way f = (shown f).on_its_way
 
 -- a text is what is found of three tables, and whether nothing differs but what may still be on its way
@@ -261,7 +261,7 @@ pub record IsCompared (counted entries payments : List ℕ) (between : Between) 
   pub enters : AreEntries between.pharmacy entries journal
   pub book : List Made
   pub makes : AreMade between payments book
-  pub found : List Finding
+  pub found : List Difference
   pub finds : Findings paid journal book found
   pub told : text ≡ head_text finding_names ++ finding_rows found
   pub agreed : agrees ≡ list_all is_on_its_way found

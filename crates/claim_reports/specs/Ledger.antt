@@ -6,7 +6,7 @@ use Rattle.std.specs.List.{list_any, sum_by}
 use Rattle.std.specs.BTreeMap.{Updates, get}
 use Rattle.claim_reports.specs.declared.ledger.Move.{Move}
 use Rattle.claim_reports.specs.declared.ledger.Move.TheVariants.{Paid, Reversed}
-use Rattle.claim_reports.specs.declared.ledger.Held.{Held}
+use Rattle.claim_reports.specs.declared.ledger.LedgerPayment.{LedgerPayment}
 use Rattle.claim_reports.specs.declared.ledger.Ledger.{Ledger}
 use Rattle.claim_reports.specs.declared.ledger.Moved.{Moved}
 use Rattle.claim_reports.specs.declared.ledger.Period.{Period}
@@ -69,7 +69,7 @@ PaidOnce (Paid a cents ∷ more) = (paid_for a more ≡ None) × PaidOnce more
 PaidOnce (Reversed a ∷ more) = PaidOnce more
 
 -- the payment of an authorization
-abbrev pub held_at : ℕ → List Move → Option Held
+abbrev pub held_at : ℕ → List Move → Option LedgerPayment
 held_at auth moves = option_map (λ (cents : ℕ). record { cents = cents; reversed = is_reversed auth moves }) (paid_for auth moves)
 
 -- a ledger has the payments of these rulings, each as it stands after them; none is reversed that was not paid
@@ -84,11 +84,11 @@ abbrev pub cents_unless : Bool → ℕ → Option ℕ
 cents_unless true cents = None
 cents_unless false cents = Some cents
 
-abbrev pub cents_in : Option Held → ℕ
+abbrev pub cents_in : Option LedgerPayment → ℕ
 cents_in None = 0
 cents_in (Some held) = held.cents
 
-abbrev pub standing_in : Option Held → Option ℕ
+abbrev pub standing_in : Option LedgerPayment → Option ℕ
 standing_in None = None
 standing_in (Some held) = cents_unless held.reversed held.cents
 

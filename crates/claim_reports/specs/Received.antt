@@ -6,7 +6,7 @@ use Rattle.std.specs.Result.{result_ok}
 use Rattle.input_text.specs.Printing.{unprinted}
 use Rattle.table_text.specs.Members.{Row, Number, Text}
 use Rattle.table_text.specs.Rows.{head_text, csv_row}
-use Rattle.claim_reports.specs.declared.beside.Entry.{Entry}
+use Rattle.claim_reports.specs.declared.differences.Entry.{Entry}
 use Rattle.claim_reports.specs.declared.replies.PacketColumns.{PacketColumns}
 use Rattle.claim_reports.specs.declared.replies.ReceiptColumns.{ReceiptColumns}
 use Rattle.claim_reports.specs.declared.naming.Name.TheVariants as name

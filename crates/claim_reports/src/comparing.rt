@@ -9,12 +9,12 @@ ghost use Rattle.claim_reports.specs.Causes.{RefusesFor};
 ghost use Rattle.claim_reports.specs.Compared.{compared_cause, alike, first_apart, finding_names, shown_row, shown, finding_rows, is_on_its_way, IsCompared};
 ghost use Rattle.claim_reports.specs.Showing.{apart_seen, shown_seen};
 
-use crate::beside::{Figures, Finding, compare};
+use crate::differences::{Difference, Figures, compare};
 use crate::fault::ReportFault;
 use crate::numbers::auth_text;
 use crate::reading::rows_in;
+use crate::reported::Reported;
 use crate::sides::{Between, CountedColumns, EntryColumns, MadeColumns};
-use crate::told::Told;
 use std::alloc::{AllocError, Global};
 use table_text::{Field, Style, put_head, put_row};
 
@@ -48,7 +48,7 @@ pub fn compare_tables(
     entries: &[u8],
     payments: &[u8],
     between: Between,
-) -> Result<Told, ReportFault>
+) -> Result<Reported, ReportFault>
     // What is written is, row by row, what is found of the rows that a reader of CSV finds in the tables.
     ensures made { IfOk result (λ told. IsCompared counted.now entries.now payments.now between told.text.items told.good) }
     // It is refused for the first fault of the tables or for want of memory, and for nothing else.
@@ -67,11 +67,11 @@ pub fn compare_tables(
     put_names(&mut text)?;
     put_findings(alloc, &mut text, found.as_slice())?;
     let agrees = are_on_their_way(found.as_slice());
-    Ok(Told { text, good: agrees })
+    Ok(Reported { text, good: agrees })
 }
 
 /// Appends the row of each finding.
-fn put_findings(alloc: Global, out: &mut Vec<u8>, found: &[Finding]) -> Result<(), AllocError>
+fn put_findings(alloc: Global, out: &mut Vec<u8>, found: &[Difference]) -> Result<(), AllocError>
     ensures { OnOk result (out.new.items ≡ out.old.items ++ finding_rows found.now) }
 {
     for finding in found {
@@ -81,18 +81,18 @@ fn put_findings(alloc: Global, out: &mut Vec<u8>, found: &[Finding]) -> Result<(
 }
 
 /// Whether each of some findings may still be on its way.
-fn are_on_their_way(found: &[Finding]) -> bool
+fn are_on_their_way(found: &[Difference]) -> bool
     ensures { result ≡ list_all is_on_its_way found.now }
 {
     found.iter().all(|finding| told_of(finding).on_its_way)
 }
 
 /// What the row of a finding says.
-fn told_of(finding: &Finding) -> Shown
+fn told_of(finding: &Difference) -> Shown
     ensures { shown_seen result ≡ shown finding.now }
 {
     match *finding {
-        Finding::NotPaid(auth, counted) => Shown {
+        Difference::NotPaid(auth, counted) => Shown {
             word: b"not_paid",
             auth,
             counted: Some(counted.cents),
@@ -100,7 +100,7 @@ fn told_of(finding: &Finding) -> Shown
             on_its_way: false,
             apart: Apart::none(),
         },
-        Finding::Differs(auth, counted, paid) => Shown {
+        Difference::Differs(auth, counted, paid) => Shown {
             word: b"differs",
             auth,
             counted: Some(counted.cents),
@@ -108,7 +108,7 @@ fn told_of(finding: &Finding) -> Shown
             on_its_way: false,
             apart: first_apart(counted, paid),
         },
-        Finding::Reversed(auth, counted, on_its_way) => Shown {
+        Difference::Reversed(auth, counted, on_its_way) => Shown {
             word: b"reversed",
             auth,
             counted: Some(counted.cents),
@@ -116,7 +116,7 @@ fn told_of(finding: &Finding) -> Shown
             on_its_way,
             apart: Apart::none(),
         },
-        Finding::NotCounted(auth, paid, on_its_way) => Shown {
+        Difference::NotCounted(auth, paid, on_its_way) => Shown {
             word: b"not_counted",
             auth,
             counted: None,

@@ -24,7 +24,7 @@ pub enum Move {
 
 /// A payment of a ledger.
 #[derive(Clone, Copy, PartialEq, Eq)]
-pub struct Held {
+pub struct LedgerPayment {
     /// Its total (F9) in cents.
     pub cents: u64,
     /// Whether it was reversed.
@@ -34,7 +34,7 @@ pub struct Held {
 /// The payments of some rulings, and what those that stand come to.
 #[derive(Drop)]
 pub struct Ledger {
-    payments: BTreeMap<u64, Held>,
+    payments: BTreeMap<u64, LedgerPayment>,
     standing: u64,
 }
 
@@ -158,7 +158,7 @@ impl Ledger {
         let Some(standing) = self.standing.checked_add(cents) else {
             return Err(ReportFault::TooLarge);
         };
-        let held = Held {
+        let held = LedgerPayment {
             cents,
             reversed: false,
         };
@@ -181,7 +181,7 @@ impl Ledger {
         let Some(standing) = self.standing.checked_sub(cents) else {
             return Err(ReportFault::NotStanding(number));
         };
-        let held = Held {
+        let held = LedgerPayment {
             cents,
             reversed: true,
         };

@@ -2,7 +2,6 @@
 //! what a pharmacy counts beside what a payer paid, what callers were told beside a run, and when rows were ruled.
 #![tactic(auto)]
 
-mod beside;
 mod book_laws;
 mod books;
 mod by_days;
@@ -10,6 +9,7 @@ mod choice;
 mod clock;
 mod comparing;
 mod daily;
+mod differences;
 mod fault;
 mod ledger;
 mod naming;
@@ -18,6 +18,7 @@ mod reading;
 mod receipts;
 mod remitting;
 mod replies;
+mod reported;
 mod reporting;
 mod ruled;
 mod ruled_rows;
@@ -26,28 +27,27 @@ mod settling;
 mod sides;
 mod statement;
 mod table;
-mod told;
 mod totalling;
 mod totals;
 mod wider;
 
-pub use beside::{Counted, Entry, Figures, Finding, Made, compare};
 pub use book_laws::{remittance_laws, totals_laws};
 pub use books::{Books, Span};
 pub use by_days::{daily_lines, daily_sums};
 pub use choice::{Choice, Paid, chosen};
 pub use comparing::compare_tables;
 pub use daily::DailyRemittance;
+pub use differences::{Counted, Difference, Entry, Figures, Made, compare};
 pub use fault::ReportFault;
-pub use ledger::{Held, Ledger, Move, Moved, Period, period_of};
+pub use ledger::{Ledger, LedgerPayment, Move, Moved, Period, period_of};
 pub use receipts::receipts_beside;
 pub use remitting::{remittance_lines, remittance_sums};
+pub use reported::Reported;
 pub use reporting::{Report, report_on};
 pub use ruled::{Request, Taken, ruled_times};
 pub use ruled_rows::ruled_table;
 pub use rulings::Remittance;
 pub use settling::{Settled, settle};
 pub use sides::Between;
-pub use told::Told;
 pub use totalling::{Days, totals_table};
 pub use totals::{By, Sums, totals_of};

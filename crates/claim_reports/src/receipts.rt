@@ -9,12 +9,12 @@ ghost use Rattle.claim_reports.specs.Causes.{RefusesFor};
 ghost use Rattle.claim_reports.specs.Replies.{Reply};
 ghost use Rattle.claim_reports.specs.Received.{received_cause, is_answer, receipt_finding, finding_row, row_if, receipt_rows, is_nothing_found, IsReceived};
 
-use crate::beside::{Entry, entries_by_number};
+use crate::differences::{Entry, entries_by_number};
 use crate::fault::ReportFault;
 use crate::reading::rows_in;
 use crate::replies::{Addressee, PacketColumns, ReceiptColumns, Reply};
+use crate::reported::Reported;
 use crate::sides::EntryColumns;
-use crate::told::Told;
 use std::alloc::{AllocError, Global};
 use std::collections::BTreeMap;
 use table_text::{Field, Style, put_head, put_row};
@@ -30,7 +30,7 @@ pub fn receipts_beside(
     entries: &[u8],
     packets: &[u8],
     pharmacy: u64,
-) -> Result<Told, ReportFault>
+) -> Result<Reported, ReportFault>
     // What is written is, row by row, what is found of the receipts that a reader of CSV finds in the table beside the run's.
     ensures made { IfOk result (λ told.
         IsReceived receipts.now entries.now packets.now pharmacy told.text.items told.good) }
@@ -47,7 +47,7 @@ pub fn receipts_beside(
     put_head(&mut text, &[b"finding", b"number"])?;
     put_findings(&mut text, &held, &came, told.as_slice())?;
     let agrees = is_nothing_found(&held, &came, told.as_slice());
-    Ok(Told { text, good: agrees })
+    Ok(Reported { text, good: agrees })
 }
 
 /// Answers by the numbers of their entries.

@@ -11,10 +11,10 @@ use crate::daily::DailyRemittance;
 use crate::fault::ReportFault;
 use crate::receipts::receipts_beside;
 use crate::remitting::{remittance_lines, remittance_sums};
+use crate::reported::Reported;
 use crate::ruled_rows::ruled_table;
 use crate::rulings::Remittance;
 use crate::sides::Between;
-use crate::told::Told;
 use crate::totalling::{Days, totals_table};
 use crate::totals::By;
 use std::alloc::Global;
@@ -45,7 +45,7 @@ pub enum Report {
 /// # Errors
 /// A table that is none, lacks a column, or has a value of another kind; rulings that are none of a book; a sum of more than 64
 /// bits; want of memory.
-pub fn report_on(alloc: Global, tables: &[Vec<u8>], report: Report) -> Result<Told, ReportFault>
+pub fn report_on(alloc: Global, tables: &[Vec<u8>], report: Report) -> Result<Reported, ReportFault>
     // What is told is this report of these tables, and good is that its sides agree, where it has sides.
     ensures told { IfOk result (λ told. IsReportOf report (tables_of tables.now) told.text.items told.good) }
     // It is refused for what is wrong first with the tables that it reads, or for want of memory, and for nothing else.
@@ -57,16 +57,16 @@ pub fn report_on(alloc: Global, tables: &[Vec<u8>], report: Report) -> Result<To
         table_at(tables, 2),
     );
     match report {
-        Report::Totals(by, days, choice) => Ok(Told::plain(totals_table(
+        Report::Totals(by, days, choice) => Ok(Reported::plain(totals_table(
             alloc, first, by, days, &choice,
         )?)),
-        Report::Lines(asked) => Ok(Told::plain(remittance_lines(alloc, first, &asked)?)),
-        Report::Sums(asked) => Ok(Told::plain(remittance_sums(alloc, first, &asked)?)),
-        Report::DailyLines(asked) => Ok(Told::plain(daily_lines(alloc, first, &asked)?)),
-        Report::DailySums(asked) => Ok(Told::plain(daily_sums(alloc, first, &asked)?)),
+        Report::Lines(asked) => Ok(Reported::plain(remittance_lines(alloc, first, &asked)?)),
+        Report::Sums(asked) => Ok(Reported::plain(remittance_sums(alloc, first, &asked)?)),
+        Report::DailyLines(asked) => Ok(Reported::plain(daily_lines(alloc, first, &asked)?)),
+        Report::DailySums(asked) => Ok(Reported::plain(daily_sums(alloc, first, &asked)?)),
         Report::Compare(between) => compare_tables(alloc, first, second, third, between),
         Report::Receipts(pharmacy) => receipts_beside(alloc, first, second, third, pharmacy),
-        Report::Ruled => Ok(Told::plain(ruled_table(alloc, first, second)?)),
+        Report::Ruled => Ok(Reported::plain(ruled_table(alloc, first, second)?)),
     }
 }
 

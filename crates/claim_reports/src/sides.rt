@@ -5,8 +5,8 @@ ghost use Rattle.csv.specs.Records.{fields_of};
 ghost use Rattle.claim_reports.specs.Causes.{RefusesFor, bad_at, records_of};
 ghost use Rattle.claim_reports.specs.Compared.{parties_in, figure_columns_in, counted_columns_in, entry_columns_in, made_columns_in, parties_missing, figures_missing, counted_missing, entry_missing, made_missing, between_bad, figures_bad, counted_values_bad, made_values_bad, entry_values_bad, counted_bad, made_bad, entry_bad, counted_cause, entries_cause, made_cause, is_between, figures_in, counted_payment, made_payment, entry_of, counted_in, made_in, entry_in, AreCounted, AreEntries, AreMade};
 
-use crate::beside::{Counted, Entry, Figures, Made};
 use crate::books::Books;
+use crate::differences::{Counted, Entry, Figures, Made};
 use crate::fault::ReportFault;
 use crate::naming::Name;
 use crate::reading::Columns;

@@ -11,7 +11,7 @@ use audit_run::{
     Files, Judged, NoVerdict, answered, calls_of, judged_logs, may_go_on, put_verdict, why_nothing,
 };
 use audit_words::{Asked, Judging};
-use claim_reports::{Report, Told, report_on};
+use claim_reports::{Report, Reported, report_on};
 use command_line::{End, given_words, read_file, read_settings_file};
 use log_audit::{GivenLog, Outgoing, WriterSink};
 use log_turning::{OneLog, Reach, read_logs};
@@ -47,7 +47,7 @@ fn run(rt: &HostRuntime) -> Result<bool, Unjudged> {
 }
 
 /// Writes what is told; whether it is good.
-fn put_told(rt: &HostRuntime, told: Told) -> Result<bool, Unjudged> {
+fn put_told(rt: &HostRuntime, told: Reported) -> Result<bool, Unjudged> {
     let mut writer = rt.stdout();
     writer.write_all(told.text.as_slice())?;
     writer.flush()?;
@@ -55,7 +55,7 @@ fn put_told(rt: &HostRuntime, told: Told) -> Result<bool, Unjudged> {
 }
 
 /// Reads tables and reports on them.
-fn reported(rt: &HostRuntime, words: &Words<'_>, report: Report) -> Result<Told, Unjudged> {
+fn reported(rt: &HostRuntime, words: &Words<'_>, report: Report) -> Result<Reported, Unjudged> {
     let mut tables = Vec::new(rt.alloc());
     tables.push(read_file(rt, words.settings)?)?;
     for name in &words.logs {
@@ -70,7 +70,7 @@ fn reported(rt: &HostRuntime, words: &Words<'_>, report: Report) -> Result<Told,
 fn tell_calls(rt: &HostRuntime, words: &Words<'_>) -> Result<bool, Unjudged> {
     let told = calls_of(rt.alloc(), read_files(rt, words, Reach::All)?);
     let text = answered(rt.alloc(), words.logs.as_slice(), told).map_err(unjudged)?;
-    put_told(rt, Told { text, good: true })
+    put_told(rt, Reported { text, good: true })
 }
 
 /// Reads the files, judges them, and writes what is told as it is made; standard error says of which switches logs were made, and

@@ -4,7 +4,7 @@ use Rattle.claim_model.specs.Node.{Node}
 use Rattle.world_setup.specs.Seen.{settings_seen}
 use Rattle.world_setup.specs.declared.settings.WorldSettings.{WorldSettings}
 use Rattle.world_settings.specs.Checked.{Spells}
-use Rattle.node_log.specs.There.{is_there}
+use Rattle.node_log.specs.ExistingNodes.{is_there}
 use Rattle.node_service.specs.declared.fault.ServiceFault.{ServiceFault}
 use Rattle.node_service.specs.declared.fault.ServiceFault.TheVariants as service
 use Rattle.node_service.specs.Refused.{NoSettings}

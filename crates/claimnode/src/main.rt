@@ -14,7 +14,7 @@ mod file;
 mod finding;
 mod joining;
 mod repair;
-mod standard;
+mod standard_streams;
 mod turning;
 mod words;
 
@@ -23,7 +23,7 @@ use crate::file::{Purpose, take};
 use crate::finding::Finding;
 use crate::joining::join;
 use crate::repair::repair;
-use crate::standard::take_standard;
+use crate::standard_streams::take_standard;
 use crate::turning::turn;
 use crate::words::{Task, Words, words_of};
 use command_line::{End, given_words, read_settings_file};

@@ -3,7 +3,7 @@ use Rattle.std.proofs.Common.{◌≡◌, ℕ, ◌+◌, ◌-◌, ◌<◌, Bool, t
 use Rattle.d0_segments.specs.declared.fault.FramingFault.{FramingFault}
 use Rattle.d0_segments.specs.declared.fault.FramingFault.TheVariants.{CountMismatch}
 use Rattle.d0_segments.specs.declared.field.Field.{Field}
-use Rattle.d0_segments.specs.declared.rest.Rest.{Rest}
+use Rattle.d0_segments.specs.declared.tail.Tail.{Tail}
 use Rattle.d0_segments.specs.Separators.{is_id, ends_here}
 use Rattle.d0_segments.specs.Parts.{SegmentParts}
 use Rattle.d0_segments.specs.Texts.{field_text}
@@ -32,7 +32,7 @@ count_over (x ∷ xs) rest e =
 shorter_by : (text before after : List ℕ) → before ≡ text ++ after → 0 < length text → length after < length before
 shorter_by text before after e some = omega (arith, ap length e, length-append text after, some)
 
-pub passes_field : (a b : Rest) (f : Field) → Takes a (field_text (field_parts f)) b → ends_here b.bytes.now ≡ true → Passes a 0 b
+pub passes_field : (a b : Tail) (f : Field) → Takes a (field_text (field_parts f)) b → ends_here b.bytes.now ≡ true → Passes a 0 b
 passes_field a b f t ends =
     let p = field_parts f in
     let typed = field_typed f in
@@ -45,7 +45,7 @@ passes_field a b f t ends =
       ends = ends;
     }
 
-pub passes_segment : (a b : Rest) (x y : ℕ) → Takes a (30 ∷ 28 ∷ 65 ∷ 77 ∷ x ∷ y ∷ []) b → is_id (x ∷ y ∷ []) ≡ true → ends_here b.bytes.now ≡ true → Passes a 0 b
+pub passes_segment : (a b : Tail) (x y : ℕ) → Takes a (30 ∷ 28 ∷ 65 ∷ 77 ∷ x ∷ y ∷ []) b → is_id (x ∷ y ∷ []) ≡ true → ends_here b.bytes.now ≡ true → Passes a 0 b
 passes_segment a b x y t id ends =
     let s : SegmentParts = record { id = x ∷ y ∷ []; fields = [] } in
     let lack = lacks-cons 29 30 (28 ∷ 65 ∷ 77 ∷ x ∷ y ∷ []) refl (lacks-cons 29 28 (65 ∷ 77 ∷ x ∷ y ∷ []) refl (name_lacks s (ap (λ u. u && true) id)).group) in

@@ -7,7 +7,7 @@ use Rattle.d0_segments.specs.declared.fault.FramingFault.{FramingFault}
 use Rattle.d0_segments.specs.declared.fault.FramingFault.TheVariants.{OutOfMemory, NoSegmentId, BadFieldId}
 use Rattle.d0_segments.specs.declared.field.Field.{Field}
 use Rattle.d0_segments.specs.declared.segment.Segment.{Segment}
-use Rattle.d0_segments.specs.declared.rest.Rest.{Rest}
+use Rattle.d0_segments.specs.declared.tail.Tail.{Tail}
 use Rattle.d0_segments.specs.Separators.{is_separator, is_id, ends_here, ends_segment, ends_group, begins_with}
 use Rattle.d0_segments.specs.Parts.{FieldParts, SegmentParts, is_group, are_groups}
 use Rattle.d0_segments.specs.Texts.{field_text, fields_text, segment_text, segments_text, group_text, groups_text}
@@ -22,7 +22,7 @@ use Rattle.d0_segments.proofs.Typed.{fields_typed, segments_typed}
 pub beyond-twice : (at : ℕ × ℕ) (m n : ℕ) → beyond (beyond at m) n ≡ beyond at (m + n)
 beyond-twice at m n = ap (λ k. (at.0, k)) (omega arith)
 
-pub Takes-then : (a b c : Rest) (x y : List ℕ) → Takes a x b → Takes b y c → Takes a (x ++ y) c
+pub Takes-then : (a b c : Tail) (x y : List ℕ) → Takes a x b → Takes b y c → Takes a (x ++ y) c
 Takes-then a b c x y p q = record {
   parts = p.parts ∙ ap (λ t. x ++ t) q.parts ∙ sym (append_assoc x y c.bytes.now);
   address = q.address ∙ ap (λ at. beyond at (length y)) p.address ∙ beyond-twice a.bytes.ref_ptr (length x) (length y) ∙ ap (beyond a.bytes.ref_ptr) (sym (length-append x y));
@@ -51,15 +51,15 @@ segments_text_more ss s = ap segments_text (map_push segment_parts ss s) ∙ seg
 pub groups_text_more : (gs : List (Vec Segment)) (g : Vec Segment) → groups_text (groups_parts (gs ++ g ∷ [])) ≡ groups_text (groups_parts gs) ++ group_text (segments_parts g.items)
 groups_text_more gs g = ap groups_text (map_push (λ (v : Vec Segment). segments_parts v.items) gs g) ∙ groups_text-push (groups_parts gs) (segments_parts g.items)
 
-pub fields_taken : (a b c : Rest) (fs : List Field) (f : Field) → Takes a (fields_text (map field_parts fs)) b → Takes b (field_text (field_parts f)) c
+pub fields_taken : (a b c : Tail) (fs : List Field) (f : Field) → Takes a (fields_text (map field_parts fs)) b → Takes b (field_text (field_parts f)) c
     → Takes a (fields_text (map field_parts (fs ++ f ∷ []))) c
 fields_taken a b c fs f p q = rw (fields_text_more fs f) (Takes-then a b c (fields_text (map field_parts fs)) (field_text (field_parts f)) p q)
 
-pub segments_taken : (a b c : Rest) (ss : List Segment) (s : Segment) → Takes a (segments_text (segments_parts ss)) b → Takes b (segment_text (segment_parts s)) c
+pub segments_taken : (a b c : Tail) (ss : List Segment) (s : Segment) → Takes a (segments_text (segments_parts ss)) b → Takes b (segment_text (segment_parts s)) c
     → Takes a (segments_text (segments_parts (ss ++ s ∷ []))) c
 segments_taken a b c ss s p q = rw (segments_text_more ss s) (Takes-then a b c (segments_text (segments_parts ss)) (segment_text (segment_parts s)) p q)
 
-pub groups_taken : (a b c : Rest) (gs : List (Vec Segment)) (g : Vec Segment) → Takes a (groups_text (groups_parts gs)) b → Takes b (group_text (segments_parts g.items)) c
+pub groups_taken : (a b c : Tail) (gs : List (Vec Segment)) (g : Vec Segment) → Takes a (groups_text (groups_parts gs)) b → Takes b (group_text (segments_parts g.items)) c
     → Takes a (groups_text (groups_parts (gs ++ g ∷ []))) c
 groups_taken a b c gs g p q = rw (groups_text_more gs g) (Takes-then a b c (groups_text (groups_parts gs)) (group_text (segments_parts g.items)) p q)
 
@@ -88,27 +88,27 @@ GroupsLie-push at (h ∷ gs) g lie e =
     let sum : beyond at (length (group_text (segments_parts h.items) ++ groups_text (groups_parts gs))) ≡ beyond (beyond at n) m = ap (beyond at) (length-append (group_text (segments_parts h.items)) (groups_text (groups_parts gs))) ∙ sym (beyond-twice at n m) in
     (lie.0, GroupsLie-push (beyond at n) gs g lie.1 (subst (λ p. SegmentsLie (beyond p 1) g.items) sum e))
 
-pub fields_lie : (a b : Rest) (fs : List Field) (f : Field) → FieldsLie a.bytes.ref_ptr fs → Takes a (fields_text (map field_parts fs)) b → f.value.ref_ptr ≡ beyond b.bytes.ref_ptr 3 → FieldsLie a.bytes.ref_ptr (fs ++ f ∷ [])
+pub fields_lie : (a b : Tail) (fs : List Field) (f : Field) → FieldsLie a.bytes.ref_ptr fs → Takes a (fields_text (map field_parts fs)) b → f.value.ref_ptr ≡ beyond b.bytes.ref_ptr 3 → FieldsLie a.bytes.ref_ptr (fs ++ f ∷ [])
 fields_lie a b fs f lie t e = FieldsLie-push a.bytes.ref_ptr fs f lie (e ∙ ap (λ p. beyond p 3) t.address)
 
-pub segments_lie : (a b : Rest) (ss : List Segment) (s : Segment) → SegmentsLie a.bytes.ref_ptr ss → Takes a (segments_text (segments_parts ss)) b → FieldsLie (beyond b.bytes.ref_ptr 6) s.fields.items → SegmentsLie a.bytes.ref_ptr (ss ++ s ∷ [])
+pub segments_lie : (a b : Tail) (ss : List Segment) (s : Segment) → SegmentsLie a.bytes.ref_ptr ss → Takes a (segments_text (segments_parts ss)) b → FieldsLie (beyond b.bytes.ref_ptr 6) s.fields.items → SegmentsLie a.bytes.ref_ptr (ss ++ s ∷ [])
 segments_lie a b ss s lie t e = SegmentsLie-push a.bytes.ref_ptr ss s lie (subst (λ p. FieldsLie (beyond p 6) s.fields.items) t.address e)
 
-pub groups_lie : (a b : Rest) (gs : List (Vec Segment)) (g : Vec Segment) → GroupsLie a.bytes.ref_ptr gs → Takes a (groups_text (groups_parts gs)) b → SegmentsLie (beyond b.bytes.ref_ptr 1) g.items → GroupsLie a.bytes.ref_ptr (gs ++ g ∷ [])
+pub groups_lie : (a b : Tail) (gs : List (Vec Segment)) (g : Vec Segment) → GroupsLie a.bytes.ref_ptr gs → Takes a (groups_text (groups_parts gs)) b → SegmentsLie (beyond b.bytes.ref_ptr 1) g.items → GroupsLie a.bytes.ref_ptr (gs ++ g ∷ [])
 groups_lie a b gs g lie t e = GroupsLie-push a.bytes.ref_ptr gs g lie (subst (λ p. SegmentsLie (beyond p 1) g.items) t.address e)
 
 -- the fault of the rest is the fault of the whole
-pub fields_carry : (a b : Rest) (fs : List Field) → Takes a (fields_text (map field_parts fs)) b → fault_in a ≡ fault_in b
+pub fields_carry : (a b : Tail) (fs : List Field) → Takes a (fields_text (map field_parts fs)) b → fault_in a ≡ fault_in b
 fields_carry a b fs t =
     carried a.end a.bytes.now (fields_text (map field_parts fs)) b.bytes.now t.parts a.within (λ p. walk_fields (map field_parts fs) b.bytes.now p (fields_typed fs))
     ∙ ap (λ e. first_fault 0 (e - length b.bytes.now) b.bytes.now) (sym t.end)
 
-pub segments_carry : (a b : Rest) (ss : List Segment) → Takes a (segments_text (segments_parts ss)) b → ends_segment b.bytes.now ≡ true → fault_in a ≡ fault_in b
+pub segments_carry : (a b : Tail) (ss : List Segment) → Takes a (segments_text (segments_parts ss)) b → ends_segment b.bytes.now ≡ true → fault_in a ≡ fault_in b
 segments_carry a b ss t end =
     carried a.end a.bytes.now (segments_text (segments_parts ss)) b.bytes.now t.parts a.within (λ p. walk_segments (segments_parts ss) b.bytes.now p (segments_typed ss) end)
     ∙ ap (λ e. first_fault 0 (e - length b.bytes.now) b.bytes.now) (sym t.end)
 
-pub groups_carry : (a b : Rest) (gs : List (Vec Segment)) → Takes a (groups_text (groups_parts gs)) b → are_groups (groups_parts gs) ≡ true → ends_group b.bytes.now ≡ true → fault_in a ≡ fault_in b
+pub groups_carry : (a b : Tail) (gs : List (Vec Segment)) → Takes a (groups_text (groups_parts gs)) b → are_groups (groups_parts gs) ≡ true → ends_group b.bytes.now ≡ true → fault_in a ≡ fault_in b
 groups_carry a b gs t are end =
     carried a.end a.bytes.now (groups_text (groups_parts gs)) b.bytes.now t.parts a.within (λ p. walk_groups (groups_parts gs) b.bytes.now p are end)
     ∙ ap (λ e. first_fault 0 (e - length b.bytes.now) b.bytes.now) (sym t.end)
@@ -124,7 +124,7 @@ begins_no_group : (bs : List ℕ) → begins_with 30 bs ≡ true → ends_group 
 begins_no_group [] e h = cc
 begins_no_group (b ∷ bs) e h = let x : b ≡ 30 = eqb-true b 30 e in let y : b ≡ 29 = eqb-true b 29 h in omega arith
 
-pub group_of_segments : (a b : Rest) (ss : List Segment) → begins_with 30 a.bytes.now ≡ true → Takes a (segments_text (segments_parts ss)) b → ends_group b.bytes.now ≡ true → is_group (segments_parts ss) ≡ true
+pub group_of_segments : (a b : Tail) (ss : List Segment) → begins_with 30 a.bytes.now ≡ true → Takes a (segments_text (segments_parts ss)) b → ends_group b.bytes.now ≡ true → is_group (segments_parts ss) ≡ true
 group_of_segments a b [] begins t end = absurd (begins_no_group b.bytes.now (subst (λ bs. begins_with 30 bs ≡ true) t.parts begins) end)
 group_of_segments a b (s ∷ ss) begins t end = segments_typed (s ∷ ss)
 
@@ -171,7 +171,7 @@ unnamed_in : (bs : List ℕ) (p : ℕ) → begins_with 30 bs ≡ true → has_se
 unnamed_in [] p begins e = absurd cc
 unnamed_in (b ∷ bs) p begins e = unnamed_at b p bs (eqb-true b 30 begins) e
 
-pub unnamed : (r : Rest) (p : ℕ) → p ≡ r.end - length r.bytes.now → begins_with 30 r.bytes.now ≡ true → (has_segment_id (drop 1 r.bytes.now) ≡ true → ⊥) → fault_in r ≡ Some (NoSegmentId p)
+pub unnamed : (r : Tail) (p : ℕ) → p ≡ r.end - length r.bytes.now → begins_with 30 r.bytes.now ≡ true → (has_segment_id (drop 1 r.bytes.now) ≡ true → ⊥) → fault_in r ≡ Some (NoSegmentId p)
 unnamed r p place begins never = rw place (unnamed_in r.bytes.now (r.end - length r.bytes.now) begins (is_false (has_segment_id (drop 1 r.bytes.now)) never))
 
 -- fewer than two bytes before the next separator name no field
@@ -194,13 +194,13 @@ nameless_in : (bs : List ℕ) (p : ℕ) → begins_with 28 bs ≡ true → has_f
 nameless_in [] p begins e = absurd cc
 nameless_in (b ∷ bs) p begins e = nameless_at b p bs (eqb-true b 28 begins) e
 
-pub nameless : (r : Rest) (p : ℕ) (plain rest : List ℕ) → p ≡ r.end - length r.bytes.now → begins_with 28 r.bytes.now ≡ true → drop 1 r.bytes.now ≡ plain ++ rest → length plain < 2 → ends_here rest ≡ true
+pub nameless : (r : Tail) (p : ℕ) (plain rest : List ℕ) → p ≡ r.end - length r.bytes.now → begins_with 28 r.bytes.now ≡ true → drop 1 r.bytes.now ≡ plain ++ rest → length plain < 2 → ends_here rest ≡ true
     → fault_in r ≡ Some (BadFieldId p)
 nameless r p plain rest place begins parts few ends =
     rw place (nameless_in r.bytes.now (r.end - length r.bytes.now) begins (ap has_field_id parts ∙ no_name plain rest few ends))
 
 -- the fault of what is inside a segment or a group
-pub entered_segment : (a b : Rest) (x y : ℕ) → Takes a (30 ∷ 28 ∷ 65 ∷ 77 ∷ x ∷ y ∷ []) b → is_id (x ∷ y ∷ []) ≡ true → ends_here b.bytes.now ≡ true → fault_in a ≡ fault_in b
+pub entered_segment : (a b : Tail) (x y : ℕ) → Takes a (30 ∷ 28 ∷ 65 ∷ 77 ∷ x ∷ y ∷ []) b → is_id (x ∷ y ∷ []) ≡ true → ends_here b.bytes.now ≡ true → fault_in a ≡ fault_in b
 entered_segment a b x y t id end =
     let parts = both (not (is_separator x)) (not (is_separator y)) id in
     carried a.end a.bytes.now (30 ∷ 28 ∷ 65 ∷ 77 ∷ x ∷ y ∷ []) b.bytes.now t.parts a.within (λ p. segment_start 0 x y p b.bytes.now (not_true (is_separator x) parts.0) (not_true (is_separator y) parts.1) end)
@@ -210,10 +210,10 @@ begun : (bs : List ℕ) (p : ℕ) → begins_with 30 bs ≡ true → first_fault
 begun [] p e = absurd cc
 begun (b ∷ bs) p e = rw (eqb-true b 30 e) refl
 
-pub entered_group : (a b : Rest) → Takes a (29 ∷ []) b → begins_with 30 b.bytes.now ≡ true → fault_in a ≡ fault_in b
+pub entered_group : (a b : Tail) → Takes a (29 ∷ []) b → begins_with 30 b.bytes.now ≡ true → fault_in a ≡ fault_in b
 entered_group a b t begins =
     carried a.end a.bytes.now (29 ∷ []) b.bytes.now t.parts a.within (λ p. begun b.bytes.now p begins)
     ∙ ap (λ e. first_fault 0 (e - length b.bytes.now) b.bytes.now) (sym t.end)
 
-pub behind_header : (r : Rest) → ends_segment r.bytes.now ≡ true → fault_behind_header r ≡ fault_in r
+pub behind_header : (r : Tail) → ends_segment r.bytes.now ≡ true → fault_behind_header r ≡ fault_in r
 behind_header r end = anywhere 29 r.bytes.now (r.end - length r.bytes.now) end

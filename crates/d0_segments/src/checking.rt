@@ -10,7 +10,7 @@ use crate::fault::FramingFault;
 use crate::framed::Framed;
 use crate::header::Header;
 use crate::passing::count_groups;
-use crate::rest::Rest;
+use crate::tail::Tail;
 use d0_header::{RequestHeader, ResponseHeader};
 
 /// Tells whether all of the bytes are a request, without building it. Takes no memory.
@@ -43,7 +43,7 @@ fn check<H: Header>(bytes: &[u8]) -> Result<Framed<'_, H>, FramingFault>
         Err(fault) => return Err(FramingFault::Header(fault)),
     };
     let end = bytes.len();
-    let found = count_groups(Rest { bytes: body, end })?;
+    let found = count_groups(Tail { bytes: body, end })?;
     let said = header.announced();
     if found != said as usize {
         return Err(FramingFault::CountMismatch { said, found });

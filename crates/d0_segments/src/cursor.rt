@@ -9,8 +9,8 @@ ghost use Rattle.d0_segments.specs.Inside.{is_inside};
 ghost use Rattle.memchr.specs.Find.{IsFirstByte, is_byte};
 
 use crate::field::Field;
-use crate::rest::{behind, byte_at};
 use crate::separator::{FIELD_SEPARATOR, GROUP_SEPARATOR, SEGMENT_SEPARATOR, begins_with, split};
+use crate::tail::{behind, byte_at};
 use memchr::memchr;
 
 /// A place after the header of framed bytes: where a field, a segment or a group begins, or the end.

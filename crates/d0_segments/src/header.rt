@@ -7,7 +7,7 @@ ghost use Rattle.d0_header.specs.Response.{IsResponse};
 ghost use Rattle.d0_segments.specs.Framing.{HeaderKind, request_kind, response_kind};
 ghost use Rattle.d0_segments.specs.Address.{beyond};
 
-use crate::rest::behind;
+use crate::tail::behind;
 use d0_header::{
     HeaderFault, RequestHeader, ResponseHeader, request_text_laws, response_text_laws,
 };

@@ -4,8 +4,8 @@ ghost use Rattle.std.specs.Prelude.{◌≡◌, ◌≤◌, map, length, IfSome};
 ghost use Rattle.std.specs.Simd.Lanes.{mask_l};
 ghost use Rattle.d0_segments.specs.Separators.{is_separator, plain_length};
 
-use crate::rest::behind;
 use crate::separator::{FIELD_SEPARATOR, is_separator, separator_in};
+use crate::tail::behind;
 use std::simd::prelude::*;
 
 /// How many bytes are tested at once.

@@ -13,9 +13,9 @@ mod lanes;
 mod laws;
 mod passing;
 mod reading;
-mod rest;
 mod segment;
 mod separator;
+mod tail;
 mod transmission;
 mod writing;
 

@@ -8,12 +8,12 @@ ghost use Rattle.d0_segments.specs.Passing.{Passes};
 
 use crate::fault::FramingFault;
 use crate::reading::{enter_group, enter_segment, expect_start, read_field};
-use crate::rest::Rest;
 use crate::separator::{FIELD_SEPARATOR, SEGMENT_SEPARATOR};
+use crate::tail::Tail;
 
 /// Counts the groups of a body that has no fault.
 #[tactic(auto, using(std::proofs::lemmas::Result::err_from_is_err_and, crate::proofs::Taken::behind_header))]
-pub fn count_groups(from: Rest<'_>) -> Result<usize, FramingFault>
+pub fn count_groups(from: Tail<'_>) -> Result<usize, FramingFault>
     ensures count { IfOk result (λ found. found ≡ count_groups from.entry.bytes.now) }
     ensures faultless { IfOk result (λ _. fault_behind_header from.entry ≡ None) }
     ensures starts { IfOk result (λ _. ends_segment from.entry.bytes.now ≡ true) }
@@ -32,7 +32,7 @@ pub fn count_groups(from: Rest<'_>) -> Result<usize, FramingFault>
 
 /// Passes a field, the start of a segment or that of a group, and tells whether it is a group's.
 #[inline(always)]
-fn pass(from: Rest<'_>) -> Result<(usize, Rest<'_>), FramingFault>
+fn pass(from: Tail<'_>) -> Result<(usize, Tail<'_>), FramingFault>
     requires some { 0 < length from.bytes.now }
     requires ends { ends_here from.bytes.now ≡ true }
     ensures passes { IfOk result (λ x. Passes from.entry x.0 x.1) }
@@ -47,7 +47,7 @@ fn pass(from: Rest<'_>) -> Result<(usize, Rest<'_>), FramingFault>
 
 /// Passes a field.
 #[inline(always)]
-fn pass_field(from: Rest<'_>) -> Result<(usize, Rest<'_>), FramingFault>
+fn pass_field(from: Tail<'_>) -> Result<(usize, Tail<'_>), FramingFault>
     requires { begins_with 28 from.bytes.now ≡ true }
     ensures passes { IfOk result (λ x. Passes from.entry x.0 x.1) }
     ensures fault { IfErr result (λ e. fault_in from.entry ≡ Some e) }
@@ -59,7 +59,7 @@ fn pass_field(from: Rest<'_>) -> Result<(usize, Rest<'_>), FramingFault>
 /// Passes a segment separator and the identification after it.
 #[inline(always)]
 #[tactic(auto, using(crate::proofs::Passed::passes_segment))]
-fn pass_segment_start(from: Rest<'_>) -> Result<(usize, Rest<'_>), FramingFault>
+fn pass_segment_start(from: Tail<'_>) -> Result<(usize, Tail<'_>), FramingFault>
     requires { begins_with 30 from.bytes.now ≡ true }
     ensures passes { IfOk result (λ x. Passes from.entry x.0 x.1) }
     ensures fault { IfErr result (λ e. fault_in from.entry ≡ Some e) }
@@ -70,7 +70,7 @@ fn pass_segment_start(from: Rest<'_>) -> Result<(usize, Rest<'_>), FramingFault>
 
 /// Passes a group separator.
 #[inline(always)]
-fn pass_group_start(from: Rest<'_>) -> Result<(usize, Rest<'_>), FramingFault>
+fn pass_group_start(from: Tail<'_>) -> Result<(usize, Tail<'_>), FramingFault>
     requires { begins_with 29 from.bytes.now ≡ true }
     ensures passes { IfOk result (λ x. Passes from.entry x.0 x.1) }
     ensures fault { IfErr result (λ e. fault_in from.entry ≡ Some e) }

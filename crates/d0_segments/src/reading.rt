@@ -18,11 +18,11 @@ use crate::fault::FramingFault;
 use crate::field::Field;
 use crate::header::Header;
 use crate::laws::{request_laws, response_laws};
-use crate::rest::Rest;
 use crate::segment::Segment;
 use crate::separator::{
     FIELD_SEPARATOR, GROUP_SEPARATOR, SEGMENT_SEPARATOR, is_at_end, is_separator, split,
 };
+use crate::tail::Tail;
 use crate::transmission::Transmission;
 use d0_header::{RequestHeader, ResponseHeader};
 use std::alloc::Global;
@@ -86,7 +86,7 @@ fn read<H: Header>(alloc: Global, bytes: &[u8]) -> Result<Transmission<'_, H>, F
         Err(fault) => return Err(FramingFault::Header(fault)),
     };
     let end = bytes.len();
-    let (shared, groups) = read_body(alloc, Rest { bytes: body, end })?;
+    let (shared, groups) = read_body(alloc, Tail { bytes: body, end })?;
     let said = header.announced();
     let found = groups.len();
     if found != said as usize {
@@ -97,7 +97,7 @@ fn read<H: Header>(alloc: Global, bytes: &[u8]) -> Result<Transmission<'_, H>, F
 
 /// Reads what stands after the header: the shared segments and the groups.
 #[tactic(auto, using(std::proofs::lemmas::Result::err_from_is_err_and, crate::proofs::Walking::ends_segment_of, crate::proofs::Taken::behind_header, crate::proofs::Taken::segments_carry, crate::proofs::Taken::fails_along))]
-fn read_body<'a>(alloc: Global, from: Rest<'a>) -> Result<Body<'a>, FramingFault>
+fn read_body<'a>(alloc: Global, from: Tail<'a>) -> Result<Body<'a>, FramingFault>
     ensures parts { IfOk result
         (λ x. from.entry.bytes.now ≡ body_text (segments_parts x.0.items) (groups_parts x.1.items)) }
     ensures groups { IfOk result (λ x. are_groups (groups_parts x.1.items) ≡ true) }
@@ -112,7 +112,7 @@ fn read_body<'a>(alloc: Global, from: Rest<'a>) -> Result<Body<'a>, FramingFault
 
 /// Refuses a byte that starts neither a segment nor a group.
 #[inline(always)]
-pub(crate) fn expect_start(rest: Rest<'_>) -> Result<(), FramingFault>
+pub(crate) fn expect_start(rest: Tail<'_>) -> Result<(), FramingFault>
     ensures ends { IfOk result (λ x. ends_segment rest.entry.bytes.now ≡ true) }
     ensures fault { IfErr result (λ e. fault_behind_header rest.entry ≡ Some e) }
 {
@@ -126,7 +126,7 @@ pub(crate) fn expect_start(rest: Rest<'_>) -> Result<(), FramingFault>
 
 /// Reads groups up to the end.
 #[tactic(auto, using(std::proofs::lemmas::Result::err_from_is_err_and, crate::proofs::Taken::groups_carry, crate::proofs::Taken::fails_along))]
-fn read_groups<'a>(alloc: Global, from: Rest<'a>) -> Result<Vec<Vec<Segment<'a>>>, FramingFault>
+fn read_groups<'a>(alloc: Global, from: Tail<'a>) -> Result<Vec<Vec<Segment<'a>>>, FramingFault>
     requires { ends_group from.bytes.now ≡ true }
     ensures parts { IfOk result (λ gs. from.entry.bytes.now ≡ groups_text (groups_parts gs.items)) }
     ensures groups { IfOk result (λ gs. are_groups (groups_parts gs.items) ≡ true) }
@@ -146,8 +146,8 @@ fn read_groups<'a>(alloc: Global, from: Rest<'a>) -> Result<Vec<Vec<Segment<'a>>
 /// Reads a group: its separator and its segments.
 fn read_group<'a>(
     alloc: Global,
-    from: Rest<'a>,
-) -> Result<(Vec<Segment<'a>>, Rest<'a>), FramingFault>
+    from: Tail<'a>,
+) -> Result<(Vec<Segment<'a>>, Tail<'a>), FramingFault>
     requires { begins_with 29 from.bytes.now ≡ true }
     ensures taken { IfOk result (λ x. Takes from.entry (group_text (segments_parts x.0.items)) x.1) }
     ensures group { IfOk result (λ x. is_group (segments_parts x.0.items) ≡ true) }
@@ -161,7 +161,7 @@ fn read_group<'a>(
 
 /// Passes a group separator with a segment after it.
 #[inline(always)]
-pub(crate) fn enter_group<'a>(from: Rest<'a>) -> Result<Rest<'a>, FramingFault>
+pub(crate) fn enter_group<'a>(from: Tail<'a>) -> Result<Tail<'a>, FramingFault>
     requires { begins_with 29 from.bytes.now ≡ true }
     ensures taken { IfOk result (λ x. Takes from.entry (29 ∷ []) x) }
     ensures segment { IfOk result (λ x. begins_with 30 x.bytes.now ≡ true) }
@@ -178,8 +178,8 @@ pub(crate) fn enter_group<'a>(from: Rest<'a>) -> Result<Rest<'a>, FramingFault>
 #[tactic(auto, using(std::proofs::lemmas::Result::err_from_is_err_and, crate::proofs::Taken::segments_carry, crate::proofs::Taken::fails_along))]
 fn read_segments<'a>(
     alloc: Global,
-    from: Rest<'a>,
-) -> Result<(Vec<Segment<'a>>, Rest<'a>), FramingFault>
+    from: Tail<'a>,
+) -> Result<(Vec<Segment<'a>>, Tail<'a>), FramingFault>
     requires { ends_segment from.bytes.now ≡ true }
     ensures taken { IfOk result (λ x. Takes from.entry (segments_text (segments_parts x.0.items)) x.1) }
     ensures ends { IfOk result (λ x. ends_group x.1.bytes.now ≡ true) }
@@ -198,7 +198,7 @@ fn read_segments<'a>(
 
 /// Reads a segment: its separator, the field `AM` of exactly two bytes, and further fields.
 #[tactic(auto, using(std::proofs::lemmas::Result::err_from_is_err_and, crate::proofs::Taken::entered_segment, crate::proofs::Taken::fails_along))]
-fn read_segment<'a>(alloc: Global, from: Rest<'a>) -> Result<(Segment<'a>, Rest<'a>), FramingFault>
+fn read_segment<'a>(alloc: Global, from: Tail<'a>) -> Result<(Segment<'a>, Tail<'a>), FramingFault>
     requires { begins_with 30 from.bytes.now ≡ true }
     ensures taken { IfOk result (λ x. Takes from.entry (segment_text (segment_parts x.0)) x.1) }
     ensures ends { IfOk result (λ x. ends_segment x.1.bytes.now ≡ true) }
@@ -213,7 +213,7 @@ fn read_segment<'a>(alloc: Global, from: Rest<'a>) -> Result<(Segment<'a>, Rest<
 /// Passes a segment separator and the field `AM` after it, whose two bytes it answers.
 #[inline(always)]
 #[tactic(auto, using(crate::proofs::Taken::named, crate::proofs::Taken::unnamed))]
-pub(crate) fn enter_segment<'a>(from: Rest<'a>) -> Result<(u8, u8, Rest<'a>), FramingFault>
+pub(crate) fn enter_segment<'a>(from: Tail<'a>) -> Result<(u8, u8, Tail<'a>), FramingFault>
     requires { begins_with 30 from.bytes.now ≡ true }
     ensures taken { IfOk result (λ x. Takes from.entry (30 ∷ 28 ∷ 65 ∷ 77 ∷ x.0 ∷ x.1 ∷ []) x.2) }
     ensures id { IfOk result (λ x. is_id (x.0 ∷ x.1 ∷ []) ≡ true) }
@@ -247,8 +247,8 @@ const FIELDS: usize = 8;
 #[tactic(auto, using(std::proofs::lemmas::Result::err_from_is_err_and, crate::proofs::Taken::fields_carry, crate::proofs::Taken::fails_of))]
 fn read_fields<'a>(
     alloc: Global,
-    from: Rest<'a>,
-) -> Result<(Vec<Field<'a>>, Rest<'a>), FramingFault>
+    from: Tail<'a>,
+) -> Result<(Vec<Field<'a>>, Tail<'a>), FramingFault>
     requires { ends_here from.bytes.now ≡ true }
     ensures taken { IfOk result (λ x. Takes from.entry (fields_text (map field_parts x.0.items)) x.1) }
     ensures ends { IfOk result (λ x. ends_segment x.1.bytes.now ≡ true) }
@@ -267,7 +267,7 @@ fn read_fields<'a>(
 
 /// Reads a field: its separator, two bytes of identifier, and the value up to the next separator.
 #[inline(always)]
-pub(crate) fn read_field<'a>(from: Rest<'a>) -> Result<(Field<'a>, Rest<'a>), FramingFault>
+pub(crate) fn read_field<'a>(from: Tail<'a>) -> Result<(Field<'a>, Tail<'a>), FramingFault>
     requires { begins_with 28 from.bytes.now ≡ true }
     ensures taken { IfOk result (λ x. Takes from.entry (field_text (field_parts x.0)) x.1) }
     ensures ends { IfOk result (λ x. ends_here x.1.bytes.now ≡ true) }
@@ -280,7 +280,7 @@ pub(crate) fn read_field<'a>(from: Rest<'a>) -> Result<(Field<'a>, Rest<'a>), Fr
             let field = Field::of_plain([*first, *second], value);
             Ok((
                 field,
-                Rest {
+                Tail {
                     bytes: behind,
                     end: from.end,
                 },

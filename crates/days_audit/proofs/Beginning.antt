@@ -14,7 +14,7 @@ use Rattle.claim_model.proofs.Lists.{numbered_exists, numbered_within, all_at}
 use Rattle.claim_model.proofs.Names.{told_apart}
 use Rattle.claim_model.proofs.Options.{map_some}
 use Rattle.crash_safety.specs.Explained.{Turn, log_among}
-use Rattle.node_log.specs.There.{is_numbered}
+use Rattle.node_log.specs.ExistingNodes.{is_numbered}
 use Rattle.run_merge.specs.Naming.{has_log, all_distinct, calls_of}
 use Rattle.vouched_runs.specs.Parties.{Parties, world_of, parties_in}
 use Rattle.vouched_runs.specs.Vouched.{Leads}

@@ -20,7 +20,7 @@ use Rattle.world_setup.specs.declared.settings.WorldSettings.{WorldSettings}
 use Rattle.kept_records.specs.Journals.{journal_in}
 use Rattle.kept_records.specs.Books.{book_in}
 use Rattle.node_state.specs.Resting.{resumed_pharmacy, resumed_switch, resumed_payer, resumed}
-use Rattle.node_log.specs.There.{is_there}
+use Rattle.node_log.specs.ExistingNodes.{is_there}
 use Rattle.node_log.proofs.Opens.{pharmacy_there, switch_there, payer_there}
 use Rattle.kept_logs.specs.Rests.{Rest, rest_in, begun_from, begins}
 use Rattle.run_merge.proofs.Covering.{distinct_once}

@@ -7,7 +7,7 @@ use Rattle.claim_model.specs.Node.{Node, Pharmacy, Switch, Payer, Power}
 use Rattle.claim_model.specs.Nodes.{AnyNode, OfPharmacy, OfSwitch, OfPayer, same_node}
 use Rattle.claim_model.specs.Numbered.{numbered}
 use Rattle.claim_model.specs.Rows.{Book}
-use Rattle.node_log.specs.There.{is_numbered}
+use Rattle.node_log.specs.ExistingNodes.{is_numbered}
 use Rattle.run_merge.specs.Naming.{all_distinct}
 use Rattle.vouched_runs.specs.Parties.{Parties}
 

@@ -1,7 +1,7 @@
 -- What is told of bytes in the code, as the definitions see it.
 use Rattle.kept_logs.specs.Frames as frame
-use Rattle.kept_logs.specs.declared.met.Met.{Met}
-use Rattle.kept_logs.specs.declared.met.Met.TheVariants as met
+use Rattle.kept_logs.specs.declared.expected_bytes.Met.{Met}
+use Rattle.kept_logs.specs.declared.expected_bytes.Met.TheVariants as met
 use Rattle.kept_logs.specs.declared.frames.Frame.{Frame}
 use Rattle.kept_logs.specs.declared.frames.Frame.TheVariants as framed
 

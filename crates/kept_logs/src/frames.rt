@@ -6,7 +6,7 @@ ghost use Rattle.kept_logs.specs.Digests.{version_seen};
 ghost use Rattle.kept_logs.specs.Frames.{behind_frame, frame_text, frame_at, body_at, is_size, is_zeros, no_record};
 ghost use Rattle.kept_logs.specs.MetSeen.{frame_seen};
 
-use crate::met::{Met, meet};
+use crate::expected_bytes::{Met, meet};
 use crate::sums::check_of;
 use crate::version::LogVersion;
 use codec::{put_u64, take_u64};

@@ -7,8 +7,8 @@ ghost use Rattle.kept_logs.specs.Logs.{owner_text, head_text, expected, head_in}
 ghost use Rattle.kept_logs.specs.Fits.{FitsNode};
 
 use crate::digest::SettingsDigest;
+use crate::expected_bytes::{Met, meet};
 use crate::fault::LogFault;
-use crate::met::{Met, meet};
 use crate::nodes::{put_node, take_node};
 use crate::sums::check_of;
 use codec::take_bytes;

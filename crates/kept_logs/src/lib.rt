@@ -7,6 +7,7 @@
 mod appending;
 mod calls;
 mod digest;
+mod expected_bytes;
 mod fault;
 mod frames;
 mod heads;
@@ -14,7 +15,6 @@ mod kept;
 mod laws;
 mod logs;
 mod making;
-mod met;
 mod nodes;
 mod records;
 mod references;

@@ -11,7 +11,7 @@ ghost use Rattle.kept_logs.specs.Frames.{met};
 ghost use Rattle.kept_logs.specs.Rests.{FitsReference, IsRest, begins, begun_from, behind_met, body_in, calls_before, references_before, references_of, rest_behind, rest_body, rest_in, rest_text, rest_version};
 ghost use Rattle.kept_logs.specs.RestSeen.{rest_seen};
 
-use crate::met::{Met, meet};
+use crate::expected_bytes::{Met, meet};
 use crate::nodes::{put_node, take_node};
 use crate::references::Reference;
 use crate::referring::{put_references, take_references};

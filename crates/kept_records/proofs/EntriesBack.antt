@@ -9,7 +9,7 @@ use Rattle.kept_records.specs.Faults.{each_in}
 use Rattle.kept_records.specs.Entries.{entry_codec, entries_text}
 use Rattle.kept_records.specs.Journals.{entry_in}
 use Rattle.kept_records.specs.Versions.{fits_version}
-use Rattle.kept_records.proofs.Made.{added_is_longer, entries-longer, first_added}
+use Rattle.kept_records.proofs.AddedEntries.{added_is_longer, entries-longer, first_added}
 use Rattle.kept_records.proofs.Formats.{entry_is, entry_fits}
 
 -- an entry that can be added, under the next number

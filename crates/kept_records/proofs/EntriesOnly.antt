@@ -13,7 +13,7 @@ use Rattle.kept_records.specs.Journals.{entry_in}
 use Rattle.kept_records.specs.Versions.{fits_version}
 use Rattle.kept_records.proofs.Chains.{some_or_then, when_or_then, when_or_ok, result_then, ok_same}
 use Rattle.kept_records.proofs.Formats.{entry_is}
-use Rattle.kept_records.proofs.Made.{added_is_longer, entries-longer}
+use Rattle.kept_records.proofs.AddedEntries.{added_is_longer, entries-longer}
 
 -- the entry that stands at the front, in its place
 pub record IsEntered (version : ℕ) (j longer : JournalAtRest) (bytes rest : List ℕ) : Type 0 where

@@ -7,7 +7,7 @@ use Rattle.claim_model.specs.Journal.{JournalAtRest, Kept}
 use Rattle.kept_records.specs.Entries.{entry_codec, entries_text}
 use Rattle.pharmacy_journal.specs.Resting.{without_entries}
 use Rattle.kept_records.specs.Journals.{IsMade}
-use Rattle.kept_records.proofs.Made.{IsShort, added_all_short}
+use Rattle.kept_records.proofs.AddedEntries.{IsShort, added_all_short}
 
 -- the number of an entry is one more than its place
 at_place : (entries : List Kept) (place : ℕ) (kept : Kept) → numbered entries (place + 1) ≡ Some kept → slice_get entries place ≡ Some kept

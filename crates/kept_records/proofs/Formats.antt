@@ -21,7 +21,7 @@ use Rattle.kept_records.specs.Products.{product_codec}
 use Rattle.kept_records.specs.Rows.{row_codec}
 use Rattle.kept_records.specs.BookLaws.{IsKeptRow, AreKeptRows}
 use Rattle.kept_records.specs.Entries.{answer_spelled, answer_of, answer_codec, entry_codec}
-use Rattle.kept_records.proofs.Made.{IsShort}
+use Rattle.kept_records.proofs.AddedEntries.{IsShort}
 
 pub text_is : IsCodec text_codec
 unfolding text_codec

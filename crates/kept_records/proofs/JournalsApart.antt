@@ -12,7 +12,7 @@ use Rattle.kept_records.specs.Journals.{IsMade, HasKeptRule, HasRuleOf, head_of,
 use Rattle.kept_records.proofs.Formats.{journal_head_is, entry_is, entry_fits}
 use Rattle.kept_records.proofs.JournalsBack.{head_fits}
 use Rattle.kept_records.proofs.RuleFormat.{rule_is, kept_fits, version_plain, which}
-use Rattle.kept_records.proofs.Made.{IsShort, added_all_short}
+use Rattle.kept_records.proofs.AddedEntries.{IsShort, added_all_short}
 
 -- the same bytes are the same entries
 same_entries : (number : ℕ) (es fs : List Kept) → number + length es < 2 ^ 64

@@ -16,7 +16,7 @@ use Rattle.kept_records.proofs.Chains.{some_or_then, when_or_then, when_or_ok, r
 use Rattle.kept_records.proofs.Formats.{journal_head_is}
 use Rattle.kept_records.proofs.RuleFormat.{version_plain, version_other, rule_at_taken}
 use Rattle.kept_records.proofs.Loops.{all_read}
-use Rattle.kept_records.proofs.Made.{added_all_is}
+use Rattle.kept_records.proofs.AddedEntries.{added_all_is}
 use Rattle.kept_records.proofs.EntriesOnly.{AreEntries, entries_are}
 
 -- ---- the head

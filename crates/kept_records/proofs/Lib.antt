@@ -2,7 +2,7 @@ pub mod PlanLoops
 pub mod RowLoops
 pub mod Chains
 pub mod Loops
-pub mod Made
+pub mod AddedEntries
 pub mod Formats
 pub mod RuleFormat
 pub mod Ordered

@@ -28,7 +28,7 @@ use Rattle.node_log.specs.LogSeen.{log_seen, logs_seen}
 use Rattle.run_merge.specs.Merged.{IsMerged, FitsThere, AllFit, packets_after}
 use Rattle.node_log.specs.Fits.{Fits, FitsBy}
 use Rattle.node_log.specs.Misfits.{IsMade}
-use Rattle.node_log.specs.There.{is_there}
+use Rattle.node_log.specs.ExistingNodes.{is_there}
 use Rattle.node_log.specs.declared.log.NodeLog.{NodeLog as Kept}
 use Rattle.node_log.proofs.Opens.{pharmacies_length, switches_length, payers_length}
 use Rattle.run_merge.proofs.Places.{found_at}

@@ -7,7 +7,7 @@ use Rattle.claim_model.specs.Context.{Context}
 use Rattle.claim_model.specs.Logs.{Logged, NodeLog}
 use Rattle.claim_model.specs.Node.{Node, Call, Pharmacy, Switch, Payer}
 use Rattle.claim_model.specs.Settings.{WorldSettings}
-use Rattle.node_log.specs.There.{is_there}
+use Rattle.node_log.specs.ExistingNodes.{is_there}
 use Rattle.log_audit.specs.Sentences.{node_text}
 use Rattle.log_audit.specs.Lacks.{node_line, lack_word, line_of_lack, lack_of, lack_lines, lacks_up_to, kind_node, stranger_lines, strangers, missing_lines}
 use Rattle.log_audit.specs.Wrongs.{FirstWrong, wrong_line, line_of_wrong, first_wrong, log_wrongs, wrong_lines}

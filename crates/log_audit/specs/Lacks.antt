@@ -5,7 +5,7 @@ use Rattle.claim_model.specs.Nodes.{same_node}
 use Rattle.claim_model.specs.Logs.{NodeLog}
 use Rattle.claim_model.specs.Node as node
 use Rattle.claim_model.specs.Settings.{WorldSettings}
-use Rattle.node_log.specs.There.{is_there}
+use Rattle.node_log.specs.ExistingNodes.{is_there}
 use Rattle.log_audit.specs.Sentences.{Words, Named, sentence}
 use Rattle.log_audit.specs.declared.judging.missing.Lack.{Lack}
 use Rattle.log_audit.specs.declared.judging.missing.Lack.TheVariants.{NoLog, SeveralLogs}

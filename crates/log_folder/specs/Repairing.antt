@@ -10,8 +10,8 @@ use Rattle.log_folder.specs.declared.mending.CutOff.{CutOff}
 use Rattle.log_folder.specs.declared.mending.CutOff.TheVariants as cut
 use Rattle.log_folder.specs.declared.mending.Mended.{Mended}
 use Rattle.log_folder.specs.declared.undamaged.Run.{Run}
-use Rattle.log_folder.specs.declared.telling.Told.{Told}
-use Rattle.log_folder.specs.declared.telling.Told.TheVariants.{Sound, Torn, Before, Damage, NoneUndamaged, Undamaged, Cut}
+use Rattle.log_folder.specs.declared.telling.Line.{Line}
+use Rattle.log_folder.specs.declared.telling.Line.TheVariants.{Sound, Torn, Before, Damage, NoneUndamaged, Undamaged, Cut}
 use Rattle.log_folder.specs.declared.fault.RepairFault.{RepairFault}
 use Rattle.log_folder.specs.declared.fault.RepairFault.TheVariants as fault
 use Rattle.log_folder.specs.declared.fault.Unrepaired.{Unrepaired}
@@ -24,31 +24,31 @@ use Rattle.log_folder.specs.Undamaged.{IsCountBefore, AreRuns}
 -- ---- what is told
 
 -- a torn end is told where there is one
-abbrev pub torn_line : ℕ → List Told
+abbrev pub torn_line : ℕ → List Line
 torn_line torn = cond (nat_lt 0 torn) (Torn torn ∷ []) []
 
 -- a log of this many bytes is sound: how much of it is whole, and then its torn end
-abbrev pub sound_lines : ℕ → ℕ → ℕ → List Told
+abbrev pub sound_lines : ℕ → ℕ → ℕ → List Line
 sound_lines calls whole size = Sound calls whole ∷ torn_line (size - whole)
 
 -- each run in its order, or that there is none
-abbrev pub run_lines : List Run → List Told
+abbrev pub run_lines : List Run → List Line
 run_lines [] = NoneUndamaged ∷ []
 run_lines (run ∷ more) = map Undamaged (run ∷ more)
 
 -- that it was cut is told where that was done
-abbrev pub cut_line : ℕ → ℕ → CutOff → List Told
+abbrev pub cut_line : ℕ → ℕ → CutOff → List Line
 cut_line place calls cut.NotAsked = []
 cut_line place calls cut.Elsewhere = []
 cut_line place calls cut.Done = Cut place calls ∷ []
 cut_line place calls (cut.Failed error) = []
 
 -- a log is damaged: what stands before, what the damage is, what is undamaged behind it, and at last that it was cut
-abbrev pub damage_lines : ℕ → ℕ → ServiceFault → ℕ → List Run → CutOff → List Told
+abbrev pub damage_lines : ℕ → ℕ → ServiceFault → ℕ → List Run → CutOff → List Line
 damage_lines size calls why place runs cut = Before calls place ∷ Damage why (size - place) ∷ (run_lines runs ++ cut_line place calls cut)
 
 -- what is told of a damage in these bytes of a log is all that stands there
-pub record TellsDamage (bytes : List ℕ) (place : ℕ) (why : ServiceFault) (cut : CutOff) (told : List Told) : Type 0 where
+pub record TellsDamage (bytes : List ℕ) (place : ℕ) (why : ServiceFault) (cut : CutOff) (told : List Line) : Type 0 where
   pub calls : ℕ
   pub runs : List Run
   pub before : IsCountBefore (version_in bytes) bytes place calls
@@ -56,7 +56,7 @@ pub record TellsDamage (bytes : List ℕ) (place : ℕ) (why : ServiceFault) (cu
   pub lines : told ≡ damage_lines (length bytes) calls why place runs cut
 
 -- what is told of a log in this condition
-abbrev pub TellsOf : List ℕ → Condition → CutOff → List Told → Type 0
+abbrev pub TellsOf : List ℕ → Condition → CutOff → List Line → Type 0
 TellsOf bytes (condition.Sound calls whole) cut told = told ≡ sound_lines calls whole (length bytes)
 TellsOf bytes (condition.Damaged place why) cut told = TellsDamage bytes place why cut told
 

@@ -29,6 +29,6 @@ pub use laws::closing_leaves_a_log;
 pub use mending::{Condition, CutOff, Mended, mend_log};
 pub use repairing::{Repaired, repair_log};
 pub use taking::{take_to_close, take_to_mend, take_to_serve};
-pub use telling::Told;
+pub use telling::Line;
 pub use undamaged::{Run, records_before, runs_from};
 pub use writing::{NewFile, OutFile, write_new};

@@ -9,7 +9,7 @@ ghost use Rattle.log_folder.specs.Repairing.{IsRepaired, IsUnrepaired, TellsDama
 use crate::fault::{RepairFault, Unrepaired};
 use crate::folder::Folder;
 use crate::mending::{Condition, CutOff, Mended, mend_log};
-use crate::telling::Told;
+use crate::telling::Line;
 use crate::undamaged::{Run, records_before, runs_from};
 use log_turning::part_of;
 use node_service::ServiceFault;
@@ -20,7 +20,7 @@ use world_setup::Node;
 #[derive(Drop)]
 pub struct Repaired {
     /// What is told of it, in this order.
-    pub told: Vec<Told>,
+    pub told: Vec<Line>,
     /// How it ends.
     pub ended: Result<(), Unrepaired>,
 }
@@ -65,7 +65,7 @@ fn told_of(alloc: Global, mended: Mended) -> Result<Repaired, RepairFault>
 }
 
 /// What is told of a log that was mended.
-fn lines_of(alloc: Global, mended: &Mended) -> Result<Vec<Told>, AllocError>
+fn lines_of(alloc: Global, mended: &Mended) -> Result<Vec<Line>, AllocError>
     ensures { IfOk result (λ told.
         TellsOf (part_in mended.now.bytes.items).log mended.now.condition mended.now.cut told.items) }
 {
@@ -82,14 +82,14 @@ fn sound_lines(
     calls: u64,
     whole: usize,
     size: usize,
-) -> Result<Vec<Told>, AllocError>
+) -> Result<Vec<Line>, AllocError>
     ensures { IfOk result (λ told. told.items ≡ sound_lines calls whole size) }
 {
     let torn = size.saturating_sub(whole);
     let mut told = Vec::new(alloc);
-    told.push(Told::Sound(calls, whole))?;
+    told.push(Line::Sound(calls, whole))?;
     if torn > 0 {
-        told.push(Told::Torn(torn))?;
+        told.push(Line::Torn(torn))?;
     }
     Ok(told)
 }
@@ -101,38 +101,38 @@ fn damage_in(
     place: usize,
     why: ServiceFault,
     cut: &CutOff,
-) -> Result<Vec<Told>, AllocError>
+) -> Result<Vec<Line>, AllocError>
     ensures { IfOk result (λ told. TellsDamage log.now place why cut.now told.items) }
 {
     let calls = records_before(log, place);
     let runs = runs_from(alloc, log, place, calls + 1)?;
     let mut told = Vec::new(alloc);
-    told.push(Told::Before(calls, place))?;
-    told.push(Told::Damage(why, log.len().saturating_sub(place)))?;
+    told.push(Line::Before(calls, place))?;
+    told.push(Line::Damage(why, log.len().saturating_sub(place)))?;
     put_runs(&mut told, runs.as_slice())?;
     put_cut(&mut told, place, calls, cut)?;
     Ok(told)
 }
 
 /// Tells each run, or that there is none.
-fn put_runs(told: &mut Vec<Told>, runs: &[Run]) -> Result<(), AllocError>
+fn put_runs(told: &mut Vec<Line>, runs: &[Run]) -> Result<(), AllocError>
     ensures { OnOk result (told.new.items ≡ told.old.items ++ run_lines runs.now) }
 {
     if runs.is_empty() {
-        return Ok(told.push(Told::NoneUndamaged)?);
+        return Ok(told.push(Line::NoneUndamaged)?);
     }
     for run in runs {
-        told.push(Told::Undamaged(*run))?;
+        told.push(Line::Undamaged(*run))?;
     }
     Ok(())
 }
 
 /// Tells that a log was cut, where that was done.
-fn put_cut(told: &mut Vec<Told>, place: usize, calls: u64, cut: &CutOff) -> Result<(), AllocError>
+fn put_cut(told: &mut Vec<Line>, place: usize, calls: u64, cut: &CutOff) -> Result<(), AllocError>
     ensures { OnOk result (told.new.items ≡ told.old.items ++ cut_line place calls cut.now) }
 {
     match cut {
-        CutOff::Done => Ok(told.push(Told::Cut(place, calls))?),
+        CutOff::Done => Ok(told.push(Line::Cut(place, calls))?),
         CutOff::NotAsked | CutOff::Elsewhere | CutOff::Failed(_) => Ok(()),
     }
 }

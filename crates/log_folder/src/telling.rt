@@ -7,7 +7,7 @@ use std::fmt::{Display, Formatter};
 
 /// A line that is told of a log. It shows as its words.
 #[derive(Clone, Copy, Debug, PartialEq, Eq)]
-pub enum Told {
+pub enum Line {
     /// It is not damaged: how many calls it has, and how many bytes these take with the head.
     Sound(u64, usize),
     /// So many bytes after them are the beginning of a record that is cut off.
@@ -24,23 +24,23 @@ pub enum Told {
     Cut(usize, u64),
 }
 
-impl Display for Told {
+impl Display for Line {
     fn fmt<W: fmt::Write>(&self, f: &mut Formatter<W>) -> fmt::Result {
         match self {
-            Told::Sound(calls, whole) => write!(f, "calls {calls}, in {whole} bytes: not damaged"),
-            Told::Torn(torn) => {
+            Line::Sound(calls, whole) => write!(f, "calls {calls}, in {whole} bytes: not damaged"),
+            Line::Torn(torn) => {
                 write!(
                     f,
                     "torn {torn} bytes, which a start cuts off and keeps beside the log"
                 )
             }
-            Told::Before(calls, place) => write!(f, "calls {calls}, in {place} bytes"),
-            Told::Damage(fault, behind) => {
+            Line::Before(calls, place) => write!(f, "calls {calls}, in {place} bytes"),
+            Line::Damage(fault, behind) => {
                 write!(f, "then {fault}, and {behind} bytes from there on")
             }
-            Told::NoneUndamaged => f.write_str("undamaged none of them"),
-            Told::Undamaged(run) => write!(f, "undamaged records {run}"),
-            Told::Cut(place, calls) => write!(f, "cut at byte {place}: {calls} calls are left"),
+            Line::NoneUndamaged => f.write_str("undamaged none of them"),
+            Line::Undamaged(run) => write!(f, "undamaged records {run}"),
+            Line::Cut(place, calls) => write!(f, "cut at byte {place}: {calls} calls are left"),
         }
     }
 }

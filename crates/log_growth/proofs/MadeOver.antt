@@ -24,7 +24,7 @@ use Rattle.settings_growth.specs.GoingOver.{GoesOver}
 use Rattle.settings_growth.proofs.Replayed.{goes_over, goes_over_lasting}
 use Rattle.log_growth.specs.Compared.{reading_of}
 use Rattle.log_growth.proofs.Among.{more_switches}
-use Rattle.log_growth.specs.Made.{WasMade, WasMadeWithRoutes}
+use Rattle.log_growth.specs.OlderLogs.{WasMade, WasMadeWithRoutes}
 use Rattle.world_setup.specs.Taken.{routes_in, routes_with}
 
 -- a log that is made breaks nowhere

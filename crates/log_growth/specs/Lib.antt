@@ -2,5 +2,5 @@
 pub mod Compared
 pub mod Over
 pub mod Grown
-pub mod Made
+pub mod OlderLogs
 pub mod Rejected

@@ -8,7 +8,7 @@ ghost use Rattle.node_service.specs.Refused.{IsRefused};
 ghost use Rattle.node_service.specs.declared.fault.ServiceFault.TheVariants.{NotMade};
 ghost use Rattle.settings_digest.specs.Digests.{digest_in};
 ghost use Rattle.log_growth.specs.Compared.{NodesGrow, node_ungrown};
-ghost use Rattle.log_growth.specs.Made.{WasMade, WasMadeWithRoutes};
+ghost use Rattle.log_growth.specs.OlderLogs.{WasMade, WasMadeWithRoutes};
 
 /// Of nodes the comparison is exact: it finds none that has not grown where each is there, as it was or with a larger cap,
 /// and nowhere else.

@@ -18,7 +18,7 @@ use Rattle.world_setup.specs.declared.settings.WorldSettings.{WorldSettings}
 use Rattle.world_setup.specs.declared.world_fault.WorldFault.{WorldFault}
 use Rattle.world_setup.specs.declared.world_fault.WorldFault.TheVariants as world_fault_is
 use Rattle.world_settings.specs.Document.{Document, document_seen, living_in}
-use Rattle.node_log.specs.There.{is_there}
+use Rattle.node_log.specs.ExistingNodes.{is_there}
 use Rattle.node_state.specs.Resting.{IsRecord, is_down, resumed, resumed_pharmacy, resumed_switch, resumed_payer}
 use Rattle.node_logged.specs.Setting.{context_of}
 use Rattle.kept_logs.specs.declared.fault.LogFault.{LogFault}

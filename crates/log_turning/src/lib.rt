@@ -2,7 +2,7 @@
 //! logs joined, as if none had been closed.
 #![tactic(auto)]
 
-mod beside;
+mod closed_logs;
 mod fault;
 mod files;
 mod joining;
@@ -11,7 +11,7 @@ mod leaving;
 mod turning;
 mod whole;
 
-pub use beside::{check_regular, closed_name, log_files, read_logs};
+pub use closed_logs::{check_regular, closed_name, log_files, read_logs};
 pub use fault::{JoinFault, RestFault, TurnFault};
 pub use files::{BEFORE_REST, part_of, rest_size, write_file};
 pub use joining::{Part, join_logs};

@@ -1,2 +1,2 @@
-mod There
+mod JsonParts
 mod Others

@@ -1,3 +1,3 @@
 pub mod Parts
 pub mod Refused
-pub mod There
+pub mod JsonParts

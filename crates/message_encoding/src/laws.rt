@@ -2,7 +2,7 @@
 
 ghost use Rattle.std.specs.Prelude.{◌≡◌, ◌↔◌, ℕ, List, All, Some, None};
 ghost use Rattle.serde_json.specs.Data.{Items};
-ghost use Rattle.message_encoding.specs.There.{IsOfBytes, PrintedReadsBack, Told, description_of, told_bytes};
+ghost use Rattle.message_encoding.specs.JsonParts.{IsOfBytes, PrintedReadsBack, Told, description_of, told_bytes};
 ghost use Rattle.message_encoding.specs.Parts.{AreAlike, DifferAt, first_unlike, message_of};
 
 /// Parts that are told in JSON are these parts' bytes again. The premise is what input_text proves of all bytes.

@@ -6,7 +6,7 @@ use Rattle.std.proofs.lemmas.List.Elements.{All-head, All-tail}
 use Rattle.input_text.specs.Lines.{is_skipped}
 use Rattle.input_text.specs.Printing.{Spelling, escaped, first_spelling, hex_value, onto, printed, printed_byte, spelled_on, unprinted, unprinted_from}
 use Rattle.input_text.specs.Printing as print
-use Rattle.message_encoding.specs.There.{PrintedReadsBack}
+use Rattle.message_encoding.specs.JsonParts.{PrintedReadsBack}
 use Rattle.message_words.specs.Spelled.{hex_before, hex_digit, hex_from}
 use Rattle.message_lines.specs.Answers.{hex_text, printed_line}
 

@@ -8,7 +8,7 @@ use Rattle.message_words.specs.declared.spelling.Spelling.TheVariants as spellin
 use Rattle.message_lines.specs.declared.fault.Fault.TheVariants.{NoBytes}
 use Rattle.message_lines.specs.declared.fault.Refusal.{Refusal}
 use Rattle.message_lines.specs.declared.making.Made.{Made}
-use Rattle.message_lines.specs.Made.{IsMade, whole}
+use Rattle.message_lines.specs.MadeMessage.{IsMade, whole}
 use Rattle.message_lines.specs.Refused.{IsRefusal, refusal_words}
 
 -- a byte as two hexadecimal digits

@@ -1,5 +1,5 @@
 pub mod Answers
 pub mod Input
 pub mod Lines
-pub mod Made
+pub mod MadeMessage
 pub mod Refused

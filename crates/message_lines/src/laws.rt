@@ -2,7 +2,7 @@
 
 ghost use Rattle.std.specs.Prelude.{◌≡◌, ◌<◌, ◌^◌, ℕ, All, List, [], Ok, false};
 ghost use Rattle.input_text.specs.Lines.{is_skipped};
-ghost use Rattle.message_encoding.specs.There.{PrintedReadsBack};
+ghost use Rattle.message_encoding.specs.JsonParts.{PrintedReadsBack};
 ghost use Rattle.message_lines.specs.Lines.{spelled};
 ghost use Rattle.message_lines.specs.Answers.{spelling_of};
 ghost use Rattle.message_words.specs.declared.spelling.Spelling.TheVariants.{Hex, Printed};

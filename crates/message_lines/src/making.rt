@@ -5,7 +5,7 @@ ghost use Rattle.message_encoding.specs.Parts.{message_of, seen};
 ghost use Rattle.message_lines.specs.declared.fault.Fault.TheVariants as fault;
 ghost use Rattle.message_lines.specs.declared.fault.Lack.TheVariants as lack;
 ghost use Rattle.message_lines.specs.declared.fault.Misread.TheVariants as misread;
-ghost use Rattle.message_lines.specs.Made.{IsMade, IsOf, ReadsBack, whole};
+ghost use Rattle.message_lines.specs.MadeMessage.{IsMade, IsOf, ReadsBack, whole};
 ghost use Rattle.message_lines.specs.Refused.{IsRefused, IsUnmade};
 
 use crate::fault::{Fault, Lack, Misread, Refusal, Unmade};

@@ -13,7 +13,7 @@ use Rattle.message_making.specs.declared.fields.PlainBilling.{PlainBilling}
 use Rattle.message_making.specs.declared.fields.PlainReversal.{PlainReversal}
 use Rattle.message_making.specs.Texts.{text_in}
 use Rattle.message_making.specs.Judged.{fill_fault, no_fill, wrong_in_billing, wrong_in_header, wrong_in_reversal}
-use Rattle.message_making.specs.Made.{billing_said, fill_said, header_said, reversal_said}
+use Rattle.message_making.specs.PlainFields.{billing_said, fill_said, header_said, reversal_said}
 use Rattle.message_making.proofs.Sound.{Right, date_right, digits_right, first_none, first_right, number_right, padded_plain, plain_right, text_right}
 
 -- none of the fields of a header is wrong

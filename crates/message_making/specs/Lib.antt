@@ -1,5 +1,5 @@
 pub mod Texts
 pub mod Judged
-pub mod Made
+pub mod PlainFields
 pub mod Making
 pub mod ReadBack

@@ -4,7 +4,7 @@ ghost use Rattle.std.specs.Prelude.{◌≡◌, ◌++◌, [], None};
 ghost use Rattle.d0_header.specs.Field.{IsPlain};
 ghost use Rattle.d0_header.specs.Request.{request_text};
 ghost use Rattle.message_making.specs.Judged.{wrong_in_header};
-ghost use Rattle.message_making.specs.Made.{header_said};
+ghost use Rattle.message_making.specs.PlainFields.{header_said};
 
 use crate::fields::PlainHeader;
 use crate::texts::{exact, padded, put, text_in};

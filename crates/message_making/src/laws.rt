@@ -4,7 +4,7 @@ ghost use Rattle.std.specs.Prelude.{◌≡◌, None};
 ghost use Rattle.message_making.specs.declared.fields.PlainBilling.{PlainBilling};
 ghost use Rattle.message_making.specs.declared.fields.PlainReversal.{PlainReversal};
 ghost use Rattle.message_making.specs.Judged.{wrong_in_billing, wrong_in_reversal};
-ghost use Rattle.message_making.specs.Made.{billing_said, reversal_said};
+ghost use Rattle.message_making.specs.PlainFields.{billing_said, reversal_said};
 ghost use Rattle.message_making.specs.ReadBack.{IsReadBilling, IsReadReversal};
 
 use claim_profile::{billing_laws, reversal_laws};

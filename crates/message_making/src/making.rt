@@ -3,7 +3,7 @@
 ghost use Rattle.std.specs.Prelude.{◌≡◌, None, IfOk, IfErr, pos};
 ghost use Rattle.claim_profile.specs.Building.{billing_text, reversal_text};
 ghost use Rattle.message_making.specs.Judged.{number_fault, wrong_in_billing, wrong_in_reversal};
-ghost use Rattle.message_making.specs.Made.{billing_said, fill_said, reversal_said};
+ghost use Rattle.message_making.specs.PlainFields.{billing_said, fill_said, reversal_said};
 ghost use Rattle.message_making.specs.Making.{wrong_told};
 ghost use Rattle.message_making.specs.declared.making.MakingFault.TheVariants.{OutOfMemory};
 

@@ -3,7 +3,7 @@
 ghost use Rattle.std.specs.Prelude.{◌≡◌};
 ghost use Rattle.claim_profile.specs.Building.{billing_text, reversal_text};
 ghost use Rattle.message_making.specs.Judged.{wrong_in_billing, wrong_in_reversal};
-ghost use Rattle.message_making.specs.Made.{billing_said, reversal_said};
+ghost use Rattle.message_making.specs.PlainFields.{billing_said, reversal_said};
 ghost use Rattle.message_making.specs.Making.{wrong_told};
 ghost use Rattle.node_handle.specs.Messages.{Makes, TellsWrong};
 

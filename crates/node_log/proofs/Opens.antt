@@ -9,7 +9,7 @@ use Rattle.claim_model.specs.Settings.{pharmacies_from, switches_of, payers_from
 use Rattle.world_setup.specs.Seen.{payer_seen}
 use Rattle.world_setup.specs.declared.settings.PayerSettings.{PayerSettings as Given}
 use Rattle.claim_model.specs.Nodes.{OfPharmacy, OfSwitch, OfPayer}
-use Rattle.node_log.specs.There.{is_numbered}
+use Rattle.node_log.specs.ExistingNodes.{is_numbered}
 
 get_there : {A : Type 0} (xs : List A) (k : ℕ) → nat_lt k (length xs) ≡ is_some (slice_get xs k)
 get_there xs k = elim (slice_get_cases xs k).1 [

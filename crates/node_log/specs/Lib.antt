@@ -1,5 +1,5 @@
 -- In the order in which one explains them.
-pub mod There
+pub mod ExistingNodes
 pub mod LogSeen
 pub mod Fits
 pub mod Misfits

@@ -2,20 +2,20 @@
 //! opening state, up to the first call that it does not make.
 #![tactic(auto)]
 
+mod comparing;
+mod existing_nodes;
 mod log;
-mod made;
 mod making;
 mod misfit;
 mod record;
+mod record_check;
 mod replay;
-mod same;
-mod there;
 
+pub use comparing::{is_same_node, is_same_sent};
+pub use existing_nodes::{is_numbered, is_there};
 pub use log::NodeLog;
-pub use made::makes;
 pub use making::{make_log, make_log_from};
 pub use misfit::{FirstMisfit, fits};
 pub use record::Record;
+pub use record_check::makes;
 pub use replay::replay_log;
-pub use same::{is_same_node, is_same_sent};
-pub use there::{is_numbered, is_there};

@@ -5,8 +5,8 @@ ghost use Rattle.world_setup.specs.Seen.{node_seen, call_seen, sent_seen};
 ghost use Rattle.claim_model.specs.Nodes.{same_node};
 ghost use Rattle.node_log.specs.LogSeen.{log_seen, with_call};
 
+use crate::comparing::is_same_node;
 use crate::record::Record;
-use crate::same::is_same_node;
 use std::alloc::{AllocError, Global};
 use world_setup::{Call, Node, Sent};
 

@@ -6,8 +6,8 @@ ghost use Rattle.claim_model.specs.Logs.{replay};
 ghost use Rattle.node_log.specs.Fits.{Fits, Tells};
 ghost use Rattle.node_log.specs.Misfits.{IsFirst};
 
-use crate::made::makes;
 use crate::record::Record;
+use crate::record_check::makes;
 use bin_routes::Routes;
 use node_state::NodeState;
 use std::alloc::{AllocError, Global};

@@ -23,7 +23,7 @@ use Rattle.node_log.specs.declared.log.NodeLog as declared
 use Rattle.node_log.proofs.Opens.{pharmacies_length, switches_length, payers_length}
 use Rattle.node_logged.specs.Setting.{context_of, opened}
 use Rattle.node_logged.specs.Holding.{IsKept}
-use Rattle.node_logged.specs.Alike.{AreAlike}
+use Rattle.node_logged.specs.SameSettings.{AreAlike}
 use Rattle.node_logged.specs.Standing.{HasLogOf, AreStanding, AreAll, next_name, with_node}
 use Rattle.world_setup.specs.Taken.{routes_with}
 

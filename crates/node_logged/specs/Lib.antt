@@ -1,7 +1,7 @@
 -- In the order in which one explains them.
 pub mod Setting
 pub mod Holding
-pub mod Alike
+pub mod SameSettings
 pub mod Tills
 pub mod TillSeen
 pub mod Ledgers

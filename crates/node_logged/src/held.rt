@@ -12,12 +12,12 @@ ghost use Rattle.run_merge.specs.Merged.{FitsAlone};
 ghost use Rattle.world_setup.specs.Seen.{node_seen, call_seen, sent_seen, settings_seen};
 ghost use Rattle.claim_model.specs.declared.refusal.Fault.TheVariants.{OutOfMemory};
 ghost use Rattle.node_logged.specs.Setting.{context_of, opened};
-ghost use Rattle.node_logged.specs.Alike.{AreAlike};
+ghost use Rattle.node_logged.specs.SameSettings.{AreAlike};
 ghost use Rattle.node_logged.specs.Holding.{IsKept, after_call, after_restart, last_record, last_sent};
 ghost use Rattle.node_logged.specs.Tills.{with_receipt};
 ghost use Rattle.node_logged.specs.TillSeen.{till_seen};
 
-use crate::alike::is_alike;
+use crate::same_settings::is_alike;
 use crate::till::Till;
 use envelope::TxnId;
 use node_log::{NodeLog, Record};

@@ -4,10 +4,10 @@
 //! entries, each exactly once (`receipts_are_the_entries_each_once`).
 #![tactic(auto)]
 
-mod alike;
 mod held;
 mod judging;
 mod laws;
+mod same_settings;
 mod till;
 
 pub use held::Held;

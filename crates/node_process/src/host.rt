@@ -3,7 +3,7 @@
 ghost use Rattle.std.specs.Prelude.{◌≡◌, []};
 ghost use Rattle.node_process.specs.Noting.{acts_of};
 
-use crate::beside::{keep_all, keep_end, leave_mark};
+use crate::kept_files::{keep_all, keep_end, leave_mark};
 use crate::kinds::{APPENDED, CUT, FOUND, SYNCED};
 use crate::machine::Machine;
 use crate::streams::{hear, say};

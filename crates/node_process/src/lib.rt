@@ -6,10 +6,10 @@
 //! leave of it, are the process of `crash_safety`.
 #![tactic(auto)]
 
-mod beside;
 mod diskless;
 mod greeting;
 mod host;
+mod kept_files;
 mod kinds;
 mod laws;
 mod machine;
@@ -19,9 +19,9 @@ mod serving;
 mod streams;
 mod unserved;
 
-pub use beside::{keep_end, leave_mark, mark_of_failed_sync, sync_folder};
 pub use diskless::Diskless;
 pub use host::Host;
+pub use kept_files::{keep_end, leave_mark, mark_of_failed_sync, sync_folder};
 pub use laws::{files_are_processes, files_keep_promises, processes_follow_one_another};
 pub use machine::Machine;
 pub use opening::Owner;

@@ -13,7 +13,7 @@ use Rattle.world_setup.specs.declared.settings.WorldSettings.{WorldSettings}
 use Rattle.world_settings.specs.Checked.{IsUntaken}
 use Rattle.world_settings.specs.declared.fault.Untaken.{Untaken}
 use Rattle.world_settings.specs.declared.fault.Untaken.TheVariants as untaken
-use Rattle.node_log.specs.There.{is_there}
+use Rattle.node_log.specs.ExistingNodes.{is_there}
 use Rattle.node_log.specs.Fits.{FitsBy}
 use Rattle.node_log.specs.Misfits.{BreaksAt}
 use Rattle.node_logged.specs.Setting.{context_of}

@@ -7,7 +7,7 @@ use Rattle.world_setup.specs.declared.settings.WorldSettings.{WorldSettings}
 use Rattle.world_settings.specs.Checked.{Spells, SpellsNone}
 use Rattle.world_settings.specs.declared.fault.Untaken.{Untaken}
 use Rattle.world_settings.specs.declared.fault.Untaken.TheVariants as untaken
-use Rattle.node_log.specs.There.{is_there}
+use Rattle.node_log.specs.ExistingNodes.{is_there}
 use Rattle.node_log.specs.Misfits.{BreaksAt}
 use Rattle.node_logged.specs.Setting.{context_of}
 use Rattle.kept_logs.specs.declared.fault.LogFault.TheVariants as log_fault

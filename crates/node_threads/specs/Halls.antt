@@ -5,7 +5,7 @@ use Rattle.claim_model.specs.declared.refusal.Fault.{Fault}
 use Rattle.claim_model.specs.declared.refusal.Refusal.TheVariants.{NoSuchNode}
 use Rattle.world_setup.specs.Seen.{settings_seen}
 use Rattle.world_setup.specs.declared.settings.WorldSettings.{WorldSettings}
-use Rattle.node_log.specs.There.{is_there}
+use Rattle.node_log.specs.ExistingNodes.{is_there}
 use Rattle.node_threads.specs.declared.hall.NodeKind.{NodeKind}
 use Rattle.node_threads.specs.declared.hall.NodeKind.TheVariants as kind
 

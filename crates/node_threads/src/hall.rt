@@ -2,7 +2,7 @@
 
 ghost use Rattle.std.specs.Prelude.{◌≡◌, ◌≤◌, length, vec_len, is_some, IfOk};
 ghost use Rattle.std.specs.Arc.{arc_value};
-ghost use Rattle.node_log.specs.There.{is_there, is_numbered};
+ghost use Rattle.node_log.specs.ExistingNodes.{is_there, is_numbered};
 ghost use Rattle.world_setup.specs.Seen.{node_seen, settings_seen};
 ghost use Rattle.node_threads.specs.Halls.{kind_count, kind_node};
 

@@ -2,7 +2,7 @@
 
 ghost use Rattle.std.specs.Prelude.{◌≡◌, ◌⊎◌, ◌↔◌, [], false, Err, is_ok, IfOk, IfErr, OnErr};
 ghost use Rattle.claim_model.specs.Node.{Pharmacy, Payer};
-ghost use Rattle.node_log.specs.There.{is_there};
+ghost use Rattle.node_log.specs.ExistingNodes.{is_there};
 ghost use Rattle.world_setup.specs.Seen.{node_seen, settings_seen};
 ghost use Rattle.node_logged.specs.Tills.{has_receipt, with_receipt};
 ghost use Rattle.node_logged.specs.TillSeen.{till_seen};

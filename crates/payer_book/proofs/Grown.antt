@@ -22,7 +22,7 @@ use Rattle.payer_book.specs.Ledger.{Ledger, standing_in}
 use Rattle.payer_book.specs.Changes.{changes_by, payments_after}
 use Rattle.payer_book.specs.Books.{reading}
 use Rattle.payer_book.specs.Added.{KeptRow, answer_under, kept_answer, kept_row, kept_ruling_of, kept_ruling, kept_rulings_from, kept_rulings, carried_in, row_saying, with_row, with_kept, added, added_all}
-use Rattle.payer_book.specs.Made.{IsTold, MadeByAdding, IsMade}
+use Rattle.payer_book.specs.MadeBooks.{IsTold, MadeByAdding, IsMade}
 use Rattle.payer_book.specs.Entries.{with_plan}
 use Rattle.claim_model.proofs.Tests.{bytes_self}
 use Rattle.payer_book.proofs.KeptRows.{kept_stands, added_kept}

@@ -25,7 +25,7 @@ use Rattle.payer_book.specs.Changes.{change_by, changes_by, payments_after}
 use Rattle.payer_book.specs.Drafts.{judged_on, amounts_in, kept_verdict, Asking, asking_of, kept_consent, AsKept, price_at, consent_at, ruling_by, rulings_on}
 use Rattle.payer_book.specs.Books.{reading, payments_of, IsBook}
 use Rattle.payer_book.specs.Added.{KeptRow, answer_under, kept_answer, kept_row, kept_ruling_of, kept_ruling, kept_rulings_from, kept_rulings, carried_in, row_saying, with_row, with_answer, with_kept, added, added_all}
-use Rattle.payer_book.specs.Made.{IsTold, IsMade}
+use Rattle.payer_book.specs.MadeBooks.{IsTold, IsMade}
 use Rattle.payer_book.specs.Entries.{with_plan}
 use Rattle.payer_book.specs.Following.{MayReject, MayDeny, FollowsRules, AllFollow, RowStands, IsKeptBook, KeepsRows}
 use Rattle.claim_model.proofs.Tests.{bytes_same, nat_self}

@@ -20,7 +20,7 @@ use Rattle.payer_book.specs.declared.ruling.changes.Change.{Change}
 use Rattle.payer_book.specs.Ledger.{Ledger, standing_in, standing_of, is_of, is_for_payment}
 use Rattle.payer_book.specs.Changes.{change_by, changes_by, standing_with, standing_after, payments_with, payments_after}
 use Rattle.payer_book.specs.Drafts.{claim_on, reversal_on, judged_on, Pricing, ByPlan, AsKept, amounts_in, kept_verdict, price_at, consent_at, auth_after, ruling_by, ruling_on, rulings_on}
-use Rattle.payer_book.specs.Made.{IsTold, ArePrices}
+use Rattle.payer_book.specs.MadeBooks.{IsTold, ArePrices}
 use Rattle.payer_book.proofs.Growth.{standing_more, after_more}
 
 -- one code

@@ -16,7 +16,7 @@ pub mod Books
 pub mod Origins
 pub mod Views
 pub mod Added
-pub mod Made
+pub mod MadeBooks
 pub mod Following
 pub mod Entries
 pub mod Placing

@@ -64,7 +64,7 @@ pub struct Book {
 impl Model for Book {
     ghost use Rattle.claim_model.specs.Rows.{Book as BookParts};
     ghost use Rattle.payer_book.specs.Books.{IsBook};
-    ghost use Rattle.payer_book.specs.Made.{IsMade};
+    ghost use Rattle.payer_book.specs.MadeBooks.{IsMade};
     ghost use Rattle.std.specs.Prelude.{◌≡◌};
     ghost use Rattle.payer_book.specs.Origins.{origins_of};
 

@@ -10,7 +10,7 @@ use Rattle.claim_model.specs.Nodes.{same_node}
 use Rattle.claim_model.specs.Logs.{NodeLog}
 use Rattle.claim_model.specs.Interleavings.{HasLog}
 use Rattle.claim_model.proofs.Names.{same_self}
-use Rattle.node_log.specs.There.{is_numbered, is_there}
+use Rattle.node_log.specs.ExistingNodes.{is_numbered, is_there}
 use Rattle.run_merge.specs.Naming.{name_at, has_log, all_distinct}
 use Rattle.run_merge.specs.Merged.{EachHasLog}
 use Rattle.run_merge.proofs.Names.{name_cases}

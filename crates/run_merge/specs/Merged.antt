@@ -14,7 +14,7 @@ use Rattle.world_setup.specs.declared.settings.WorldSettings.{WorldSettings}
 use Rattle.claim_model.specs.Nodes.{AnyNode, node_at}
 use Rattle.claim_model.specs.Logs.{Logged, NodeLog}
 use Rattle.claim_model.specs.Interleavings.{HasLog, IsInterleaving}
-use Rattle.node_log.specs.There.{is_there}
+use Rattle.node_log.specs.ExistingNodes.{is_there}
 use Rattle.node_log.specs.Fits.{Fits}
 use Rattle.run_merge.specs.declared.history.MergeFault.{MergeFault}
 use Rattle.run_merge.specs.declared.history.MergeFault.TheVariants.{OutOfMemory, Tangled}

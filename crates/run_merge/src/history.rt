@@ -5,7 +5,7 @@ ghost use Rattle.claim_model.specs.Bytes.{bytes_with};
 ghost use Rattle.claim_model.specs.Limits.{most_pharmacies, most_switches, most_payers};
 ghost use Rattle.claim_model.specs.Settings.{settings_fault};
 ghost use Rattle.world_setup.specs.Seen.{event_seen, settings_seen, node_seen};
-ghost use Rattle.node_log.specs.There.{is_numbered, is_there};
+ghost use Rattle.node_log.specs.ExistingNodes.{is_numbered, is_there};
 ghost use Rattle.run_merge.specs.Naming.{name_at, has_log, all_distinct};
 ghost use Rattle.node_log.specs.Fits.{Tells};
 ghost use Rattle.node_log.specs.LogSeen.{log_seen, logs_seen};

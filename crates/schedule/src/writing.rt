@@ -1,7 +1,7 @@
 //! Events as the lines of a schedule: the inverse of reading them.
 
 mod lines;
-mod same;
+mod same_events;
 
 ghost use Rattle.std.specs.Prelude.{◌≡◌, true, Ok, IfOk, IsTrue};
 ghost use Rattle.std.specs.Str.Lines.{lines};
@@ -11,7 +11,7 @@ ghost use Rattle.schedule.specs.Reading.{events_of, living_events_of};
 use crate::fault::{ScheduleFault, TextFault};
 use crate::reading::read_living_schedule;
 use crate::writing::lines::put_event;
-use crate::writing::same::are_same;
+use crate::writing::same_events::are_same;
 use std::alloc::{AllocError, Global};
 use world_setup::Event;
 

@@ -14,7 +14,7 @@ use Rattle.node_logged.specs.Holding.{Holding}
 use Rattle.bin_routes.specs.Row.{Row}
 use Rattle.claim_model.specs.Bytes.{bytes_with}
 use Rattle.claim_model.specs.Settings as opened
-use Rattle.switch_logs.specs.Made.{AreMade, AreMadeUnder, FitsUnder, Stand, all_under, if_none, log_of, nodes_of, unlogged, who}
+use Rattle.switch_logs.specs.MadeLogs.{AreMade, AreMadeUnder, FitsUnder, Stand, all_under, if_none, log_of, nodes_of, unlogged, who}
 use Rattle.world_setup.specs.Taken.{routes_with}
 
 -- one of them goes on, and is who it was

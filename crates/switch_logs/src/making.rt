@@ -3,7 +3,7 @@
 ghost use Rattle.std.specs.Prelude.{◌≡◌, IfOk, OnOk, map};
 ghost use Rattle.std.specs.Arc.{arc_value};
 ghost use Rattle.node_log.specs.LogSeen.{logs_seen};
-ghost use Rattle.switch_logs.specs.Made.{AreMadeUnder, who};
+ghost use Rattle.switch_logs.specs.MadeLogs.{AreMadeUnder, who};
 
 use crate::unlogged::Unlogged;
 use crate::walk::Walk;

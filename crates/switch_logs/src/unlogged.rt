@@ -8,7 +8,7 @@ ghost use Rattle.world_setup.specs.Seen.{node_seen};
 ghost use Rattle.node_log.specs.LogSeen.{logs_seen};
 ghost use Rattle.run_merge.specs.Naming.{has_log};
 ghost use Rattle.node_logged.specs.Setting.{opened};
-ghost use Rattle.switch_logs.specs.Made.{FitsUnder, Stand, all_under, if_none, log_of, unlogged, who};
+ghost use Rattle.switch_logs.specs.MadeLogs.{FitsUnder, Stand, all_under, if_none, log_of, unlogged, who};
 
 use node_log::{NodeLog, is_same_node};
 use node_logged::Held;

@@ -1,7 +1,7 @@
 //! The walk over the calls of logs, each once what it takes is explained.
 
 ghost use Rattle.std.specs.Prelude.{◌≡◌, OnOk, map};
-ghost use Rattle.switch_logs.specs.Made.{who};
+ghost use Rattle.switch_logs.specs.MadeLogs.{who};
 
 use crate::handing::handed;
 use crate::known::{Known, id_of};

@@ -14,7 +14,7 @@ ghost use Rattle.node_handle.specs.Texts.{Prints, Unprints};
 ghost use Rattle.node_handle.specs.Messages.{Describes, Makes, style_of};
 ghost use Rattle.claim_profile.specs.Building.{billing_text, reversal_text};
 ghost use Rattle.message_making.specs.Judged.{wrong_in_billing, wrong_in_reversal};
-ghost use Rattle.message_making.specs.Made.{billing_said, reversal_said};
+ghost use Rattle.message_making.specs.PlainFields.{billing_said, reversal_said};
 ghost use Rattle.node_handle.specs.Typed.{Adjudicates, Takes, submit_line};
 ghost use Rattle.node_handle.specs.Asked.{GivesAnswer, GivesRequest, Sizes};
 ghost use Rattle.node_handle.specs.Heard.{GivesHeard};

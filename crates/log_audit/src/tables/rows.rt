@@ -28,7 +28,7 @@ pub(crate) struct RuledAt<'a> {
 
 /// What is told of an answer beside its ruling: the prescription (402-D2), and the total (509-F9) of a payment that it made.
 #[derive(Clone, Copy)]
-struct Told {
+struct RulingCells {
     prescription: Option<u64>,
     paid: Option<u64>,
 }
@@ -109,7 +109,7 @@ fn put_ruling(
             prescription,
             amounts,
         } => {
-            let told = Told {
+            let told = RulingCells {
                 prescription: Some(prescription),
                 paid: Some(u64::from(amounts.total())),
             };
@@ -132,10 +132,10 @@ fn put_ruling(
 }
 
 /// What is told of an answer that made no payment.
-fn unpaid(prescription: Option<u64>) -> Told
+fn unpaid(prescription: Option<u64>) -> RulingCells
     ensures { result ≡ record { prescription = prescription; paid = None } }
 {
-    Told {
+    RulingCells {
         prescription,
         paid: None,
     }
@@ -172,7 +172,7 @@ fn put_answered(
     ruling: &'static [u8],
     authorization: &[u8],
     rejects: &[u8],
-    told: Told,
+    told: RulingCells,
 ) -> Result<(), AllocError>
     ensures { OnOk result (AddsRow style out.old out.new
         (answered_row (at_seen at.now) ruling.now authorization.now rejects.now told.prescription told.paid)) }

@@ -4,7 +4,7 @@ ghost use Rattle.std.specs.Prelude.{◌≡◌, IfOk, OnOk, Some, None};
 ghost use Rattle.claim_model.specs.Laws.{AdvisesWell};
 ghost use Rattle.payer_book.specs.Advices.{advice_seen};
 ghost use Rattle.payer_book.specs.Drafts.{pricing, pricing_of, Suits};
-ghost use Rattle.payer_book.specs.Made.{ArePrices};
+ghost use Rattle.payer_book.specs.MadeBooks.{ArePrices};
 ghost use Rattle.claim_model.specs.Bytes.{bytes_with};
 ghost use Rattle.claim_model.specs.Readable.{is_payer, payer_for, route_key};
 ghost use Rattle.claim_model.specs.Book.{row_of};

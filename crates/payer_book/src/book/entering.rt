@@ -16,7 +16,7 @@ ghost use Rattle.bin_routes.specs.Table.{routes_of};
 ghost use Rattle.payer_book.specs.Faults.{LacksSerial};
 ghost use Rattle.payer_book.specs.Drafts.{pricing, pricing_of, Suits};
 ghost use Rattle.payer_book.specs.Added.{with_row};
-ghost use Rattle.payer_book.specs.Made.{ArePrices};
+ghost use Rattle.payer_book.specs.MadeBooks.{ArePrices};
 ghost use Rattle.payer_book.specs.Origins.{repeated_in, given_or};
 ghost use Rattle.payer_book.specs.Entries.{IsEntry, rulings_by, row_by};
 

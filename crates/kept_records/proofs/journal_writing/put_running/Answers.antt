@@ -2,7 +2,7 @@ use Rattle.std.proofs.Common.{◌++◌, arith}
 use Rattle.claim_model.specs.Journal.{stopped}
 use Rattle.kept_records.specs.Entries.{entries_text}
 use Rattle.kept_records.proofs.EntriesWritten.{some_at_place, short_at_place, put_one, put_all}
-use Rattle.kept_records.proofs.Made.{entries_stopped}
+use Rattle.kept_records.proofs.AddedEntries.{entries_stopped}
 use Rattle.kept_records.proofs.journal_writing.put_running.Goals as goal
 
 pub unreachable-requires : goal.unreachable-requires

@@ -4,7 +4,7 @@ use Rattle.claim_model.specs.Limits.{most_entries}
 use Rattle.kept_records.specs.Heads.{journal_head_codec}
 use Rattle.kept_records.specs.Rules.{rule_text}
 use Rattle.kept_records.specs.Journals.{head_of}
-use Rattle.kept_records.proofs.Made.{entries_stopped}
+use Rattle.kept_records.proofs.AddedEntries.{entries_stopped}
 use Rattle.kept_records.proofs.JournalsWritten.{put_back}
 use Rattle.kept_records.proofs.journal_writing.save_journal.Goals as goal
 

@@ -1,7 +1,7 @@
 use Rattle.std.proofs.Common.{◌≡◌, ℕ, ◌<◌, ◌≤◌, ◌^◌, ◌∙◌, ap, sym, subst, length, List, arith}
 use Rattle.std.proofs.lemmas.Result.{on_ok_weaker}
 use Rattle.envelope.specs.Txn.{Txn, IsTxn}
-use Rattle.kept_records.proofs.Made.{readable_short}
+use Rattle.kept_records.proofs.AddedEntries.{readable_short}
 use Rattle.kept_records.proofs.rows.put_row.Goals as goal
 
 pub put_text-requires : goal.put_text-requires

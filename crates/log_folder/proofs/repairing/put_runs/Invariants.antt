@@ -1,5 +1,5 @@
 use Rattle.std.proofs.Common.{◌≡◌, ◌++◌, take, map}
-use Rattle.log_folder.specs.declared.telling.Told.TheVariants.{Undamaged}
+use Rattle.log_folder.specs.declared.telling.Line.TheVariants.{Undamaged}
 use Rattle.log_folder.proofs.repairing.put_runs.Given as goal
 
 abbrev pub invariant-loop-run : goal.invariant-loop-run

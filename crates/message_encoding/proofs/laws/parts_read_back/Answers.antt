@@ -1,4 +1,4 @@
-use Rattle.message_encoding.proofs.There.{all_back}
+use Rattle.message_encoding.proofs.JsonParts.{all_back}
 use Rattle.message_encoding.proofs.laws.parts_read_back.Goals as goal
 
 pub returns : goal.returns

@@ -3,7 +3,7 @@ use Rattle.std.proofs.lemmas.List.{take_all}
 use Rattle.std.specs.List.{concat}
 use Rattle.d0_header.specs.Request.{request_text}
 use Rattle.d0_header.proofs.Cutting.{put_first, put_behind, nine_joined}
-use Rattle.message_making.specs.Made.{header_said}
+use Rattle.message_making.specs.PlainFields.{header_said}
 use Rattle.message_making.proofs.Built.{header_right}
 use Rattle.message_making.proofs.header.header_bytes.Goals as goal
 

@@ -1,5 +1,5 @@
 use Rattle.std.proofs.Common.{[], append-nil, sym, ◌∙◌}
-use Rattle.message_making.specs.Made.{header_said}
+use Rattle.message_making.specs.PlainFields.{header_said}
 use Rattle.message_making.proofs.Built.{header_right, header_sound}
 use Rattle.message_making.proofs.header.header_of.Goals as goal
 

@@ -1,5 +1,5 @@
 use Rattle.message_making.proofs.Built.{billing_right, is_billing, is_reversing, reversal_right, version_said}
-use Rattle.message_making.specs.Made.{billing_said, reversal_said}
+use Rattle.message_making.specs.PlainFields.{billing_said, reversal_said}
 use Rattle.message_making.proofs.laws.made_messages_read_back.Goals as goal
 
 pub returns-clause-billing : goal.returns-clause-billing

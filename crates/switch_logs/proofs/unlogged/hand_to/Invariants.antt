@@ -1,5 +1,5 @@
 use Rattle.std.proofs.Common.{◌≡◌}
-use Rattle.switch_logs.specs.Made.{who}
+use Rattle.switch_logs.specs.MadeLogs.{who}
 use Rattle.switch_logs.proofs.unlogged.hand_to.Given as goal
 
 -- it is the same node still

@@ -2,7 +2,7 @@ use Rattle.std.proofs.Common.{◌≡◌, ◌++◌, length, map}
 use Rattle.std.specs.List.{AllByRecursion}
 use Rattle.std.specs.Vec.Iter.{into_iter_items, into_iter_len}
 use Rattle.node_log.specs.LogSeen.{logs_seen}
-use Rattle.switch_logs.specs.Made.{FitsUnder, log_of}
+use Rattle.switch_logs.specs.MadeLogs.{FitsUnder, log_of}
 use Rattle.switch_logs.proofs.unlogged.Unlogged.into_logs.Given as goal
 
 -- the logs of the switches so far, which fit them

@@ -1,6 +1,6 @@
 use Rattle.std.specs.Arc.{arc_value}
 use Rattle.node_log.specs.LogSeen.{logs_seen}
-use Rattle.switch_logs.specs.Made.{Stand, unlogged}
+use Rattle.switch_logs.specs.MadeLogs.{Stand, unlogged}
 use Rattle.switch_logs.proofs.unlogged.Unlogged.new.Given as goal
 
 -- the switches so far that have no log

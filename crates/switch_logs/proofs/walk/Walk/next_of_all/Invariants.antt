@@ -1,5 +1,5 @@
 use Rattle.std.proofs.Common.{◌≡◌, map}
-use Rattle.switch_logs.specs.Made.{who}
+use Rattle.switch_logs.specs.MadeLogs.{who}
 use Rattle.switch_logs.proofs.walk.Walk.next_of_all.Given as goal
 
 -- they are who they were

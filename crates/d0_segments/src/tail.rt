@@ -5,13 +5,13 @@ ghost use Rattle.d0_segments.specs.Address.{beyond};
 
 /// The bytes that are left to read, and the place at which they end.
 #[derive(Clone, Copy)]
-pub struct Rest<'a> {
+pub struct Tail<'a> {
     pub bytes: &'a [u8],
     pub end: usize,
     ghost within: { length bytes.now ≤ end },
 }
 
-impl<'a> Rest<'a> {
+impl<'a> Tail<'a> {
     /// The place of the first byte that is left.
     pub fn place(self) -> usize
         ensures { result ≡ self.entry.end - length self.entry.bytes.now }
@@ -20,13 +20,13 @@ impl<'a> Rest<'a> {
     }
 
     /// What is left after this many bytes.
-    pub fn behind(self, count: usize) -> Rest<'a>
+    pub fn behind(self, count: usize) -> Tail<'a>
         requires { count ≤ length self.bytes.now }
         ensures bytes { result.bytes.now ≡ drop count self.entry.bytes.now }
         ensures address { result.bytes.ref_ptr ≡ beyond self.entry.bytes.ref_ptr count }
         ensures end { result.end ≡ self.entry.end }
     {
-        Rest {
+        Tail {
             bytes: behind(self.bytes, count),
             end: self.end,
         }

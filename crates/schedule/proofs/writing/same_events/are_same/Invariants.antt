@@ -1,5 +1,5 @@
 use Rattle.std.proofs.Common.{◌≡◌, take}
-use Rattle.schedule.proofs.writing.same.are_same.Given as goal
+use Rattle.schedule.proofs.writing.same_events.are_same.Given as goal
 
 -- what was compared is the same
 abbrev pub invariant-loop-place : goal.invariant-loop-place

@@ -1,6 +1,6 @@
 use Rattle.std.proofs.Common.{◌∙◌, sym, refl}
 use Rattle.node_logged.proofs.Sameness.{alike_more}
-use Rattle.node_logged.proofs.alike.have_same_prices.Goals as goal
+use Rattle.node_logged.proofs.same_settings.have_same_prices.Goals as goal
 
 pub loop-place-preserved : goal.loop-place-preserved
 loop-place-preserved c =

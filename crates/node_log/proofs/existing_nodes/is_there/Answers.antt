@@ -1,7 +1,7 @@
 use Rattle.std.proofs.Common.{sym, arith, ◌∙◌}
 use Rattle.node_log.proofs.Opens.{pharmacy_there, switch_there, payer_there}
 use Rattle.node_log.proofs.Options.{some_by}
-use Rattle.node_log.proofs.there.is_there.Goals as goal
+use Rattle.node_log.proofs.existing_nodes.is_there.Goals as goal
 
 pub returns-in-Pharmacy-clause-value : goal.returns-in-Pharmacy-clause-value
 returns-in-Pharmacy-clause-value c = rw (c.in-Pharmacy.is, c.is_numbered.ensures) (pharmacy_there c.args.settings.now.pharmacies.items c.len.result c.in-Pharmacy.number (omega arith))

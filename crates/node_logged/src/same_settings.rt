@@ -1,7 +1,7 @@
 //! Whether two settings are the same.
 
 ghost use Rattle.std.specs.Prelude.{◌≡◌, IsTrue, option_map};
-ghost use Rattle.node_logged.specs.Alike.{AreAlike, priced};
+ghost use Rattle.node_logged.specs.SameSettings.{AreAlike, priced};
 
 use bin_routes::{Providers, RouteRow};
 use pharmacy_journal::PharmacySettings;

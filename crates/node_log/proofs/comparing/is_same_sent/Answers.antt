@@ -1,7 +1,7 @@
 use Rattle.std.proofs.Common.{arith}
 use Rattle.world_setup.specs.Seen.{sent_seen}
 use Rattle.node_log.proofs.Sents.{same_at}
-use Rattle.node_log.proofs.same.is_same_sent.Goals as goal
+use Rattle.node_log.proofs.comparing.is_same_sent.Goals as goal
 
 pub returns-then-not-is_same : goal.returns-then-not-is_same
 returns-then-not-is_same c =

@@ -1,6 +1,6 @@
 use Rattle.std.proofs.Common.{arith}
 use Rattle.kept_logs.proofs.Meeting.{differs, torn, whole}
-use Rattle.kept_logs.proofs.met.meet.Goals as goal
+use Rattle.kept_logs.proofs.expected_bytes.meet.Goals as goal
 
 pub returns-then-ne : goal.returns-then-ne
 returns-then-ne c = differs c.args.wanted.now c.args.bytes.now c.min-common.result c.ne.result (omega (arith, c.min-common.ensures)) (omega (arith, c.min-common.ensures)) c.ne.ensures c.if-ne.true

@@ -4,9 +4,9 @@ ghost use Rattle.std.specs.Prelude.{◌≡◌, ◌++◌, map, IfErr, IfOk};
 ghost use Rattle.std.specs.List.{filter_map};
 ghost use Rattle.std.specs.Ordering.{nat_cmp};
 ghost use Rattle.std.specs.BTreeMap.{IsFromIterResult, get};
-ghost use Rattle.claim_reports.specs.declared.beside.Counted.{Counted};
-ghost use Rattle.claim_reports.specs.declared.beside.Entry.{Entry};
-ghost use Rattle.claim_reports.specs.declared.beside.Made.{Made};
+ghost use Rattle.claim_reports.specs.declared.differences.Counted.{Counted};
+ghost use Rattle.claim_reports.specs.declared.differences.Entry.{Entry};
+ghost use Rattle.claim_reports.specs.declared.differences.Made.{Made};
 ghost use Rattle.claim_reports.specs.declared.fault.ReportFault.TheVariants.{OutOfMemory};
 ghost use Rattle.claim_reports.specs.Comparing.{is_open_entry, Findings, counted_finding, made_finding, same_figures};
 
@@ -65,7 +65,7 @@ pub struct Entry {
 /// What differs about an authorization. The last word of `Reversed` and `NotCounted` is whether the answer that would settle
 /// it may still be on its way: the pharmacy's entry is open.
 #[derive(Clone, Copy, PartialEq, Eq)]
-pub enum Finding {
+pub enum Difference {
     /// The pharmacy counts it, and the payer has not paid it.
     NotPaid(u64, Figures),
     /// The pharmacy counts other figures, which come first, than the payer paid.
@@ -86,7 +86,7 @@ pub fn compare(
     counted: &[Counted],
     entries: &[Entry],
     made: &[Made],
-) -> Result<Vec<Finding>, ReportFault>
+) -> Result<Vec<Difference>, ReportFault>
     ensures found { IfOk result (λ found. Findings counted.now entries.now made.now found.items) }
     // It is refused for want of memory alone.
     ensures memory { IfErr result (λ e. e ≡ OutOfMemory) }
@@ -137,7 +137,7 @@ fn found(
     paid: &BTreeMap<u64, Made>,
     counted: &[Counted],
     made: &[Made],
-) -> Result<Vec<Finding>, AllocError>
+) -> Result<Vec<Difference>, AllocError>
     ensures { IfOk result (λ found. found.items
         ≡ filter_map (counted_finding (get nat_cmp held.now) (get nat_cmp paid.now)) counted.now
         ++ filter_map (made_finding (get nat_cmp held.now) (get nat_cmp known.now)) made.now) }
@@ -157,22 +157,22 @@ fn counted_finding(
     held: &BTreeMap<u64, Entry>,
     paid: &BTreeMap<u64, Made>,
     counted: &Counted,
-) -> Option<Finding>
+) -> Option<Difference>
     ensures { result ≡ counted_finding (get nat_cmp held.now) (get nat_cmp paid.now) counted.now }
 {
     let Some(made) = paid.get(&counted.auth) else {
-        return Some(Finding::NotPaid(counted.auth, counted.figures));
+        return Some(Difference::NotPaid(counted.auth, counted.figures));
     };
     match made.reversed_by {
         Some(number) => {
             let is_open = is_open(held, number);
-            Some(Finding::Reversed(counted.auth, counted.figures, is_open))
+            Some(Difference::Reversed(counted.auth, counted.figures, is_open))
         }
         None => {
             if made.figures.are(counted.figures) {
                 return None;
             }
-            Some(Finding::Differs(counted.auth, counted.figures, made.figures))
+            Some(Difference::Differs(counted.auth, counted.figures, made.figures))
         }
     }
 }
@@ -182,14 +182,14 @@ fn made_finding(
     held: &BTreeMap<u64, Entry>,
     known: &BTreeMap<u64, Counted>,
     made: &Made,
-) -> Option<Finding>
+) -> Option<Difference>
     ensures { result ≡ made_finding (get nat_cmp held.now) (get nat_cmp known.now) made.now }
 {
     if made.reversed_by.is_some() || known.contains_key(&made.auth) {
         return None;
     }
     let is_open = is_open(held, made.number);
-    Some(Finding::NotCounted(made.auth, made.figures, is_open))
+    Some(Difference::NotCounted(made.auth, made.figures, is_open))
 }
 
 impl Figures {

@@ -4,8 +4,8 @@ ghost use Rattle.std.specs.Prelude.{IfOk};
 ghost use Rattle.claim_model.specs.Bytes.{bytes_with};
 ghost use Rattle.node_log.specs.Fits.{TellsMade};
 
+use crate::comparing::is_same_sent;
 use crate::record::Record;
-use crate::same::is_same_sent;
 use bin_routes::Routes;
 use node_state::NodeState;
 use std::alloc::{AllocError, Global};

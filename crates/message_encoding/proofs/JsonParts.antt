@@ -8,7 +8,7 @@ use Rattle.input_text.specs.Printing.{printed, unprinted}
 use Rattle.serde_json.specs.Data.{Data, number, unsigned, object, string, Members, no_members, member}
 use Rattle.serde_json.specs.Find.{get, get_member, as_str}
 use Rattle.message_encoding.specs.Parts.{all_bytes, front_of, given_front, joined, named, number_front, part_bytes, spelled, text_at, value_of, valued}
-use Rattle.message_encoding.specs.There.{Bytes, GivenBytes, IsOfBytes, IsRow, PrintedReadsBack, Row, Told, given, given_printed, items_told, number_told, part_told, row, row_front, row_members, told, told_bytes, transaction}
+use Rattle.message_encoding.specs.JsonParts.{Bytes, GivenBytes, IsOfBytes, IsRow, PrintedReadsBack, Row, Told, given, given_printed, items_told, number_told, part_told, row, row_front, row_members, told, told_bytes, transaction}
 
 -- ---- members
 

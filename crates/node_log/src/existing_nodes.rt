@@ -4,7 +4,7 @@ ghost use Rattle.std.specs.Prelude.{◌≡◌, IsSome, IsTrue};
 ghost use Rattle.claim_model.specs.Nodes.{node_at};
 ghost use Rattle.claim_model.specs.Settings.{opening};
 ghost use Rattle.world_setup.specs.Seen.{node_seen, settings_seen};
-ghost use Rattle.node_log.specs.There.{is_numbered, is_there};
+ghost use Rattle.node_log.specs.ExistingNodes.{is_numbered, is_there};
 
 use world_setup::{Node, WorldSettings};
 
