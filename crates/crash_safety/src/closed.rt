@@ -11,6 +11,7 @@ ghost use Rattle.crash_safety.specs.Steps.{Step, in_front, process_after, replay
 /// What a log makes of a node, more calls make of that what both together make; and a process over the new log alone does,
 /// step by step, what the process over all logs does. So from an empty disk it is the process over all logs, from the disk
 /// that has the closed ones.
+#[tactic(auto, using(crate::proofs::Closing::replays_on, crate::proofs::Closing::makes_on, crate::proofs::Closing::makes_parts, crate::proofs::Closing::steps_in_front, crate::proofs::Closing::from_closed))]
 pub fn closed_logs_go_on()
     ensures replays { (ctx : Context) (begins : Option AnyNode) (closed log : List Logged)
         → replayed_from ctx begins (closed ++ log) ≡ replayed_from ctx (replayed_from ctx begins closed) log }

@@ -10,6 +10,7 @@ ghost use Rattle.crash_safety.specs.Fenced.{Deed, Fences, IsReplayOfKnown, fence
 /// to end where it ends, the streams are the disks of a network with one process a node, and what was said is what that
 /// network said. So "one process a node" is no premise there, and every promise of disks is one of streams. Acknowledgements
 /// may be lost: an entry that its owner finds after what it knows is its first pending call.
+#[tactic(auto, using(crate::proofs::Streams::fences))]
 pub fn fences_make_one_process()
     ensures { (ctx : Context) (s : WorldSettings) (deeds more : List Deed)
         → Fences ctx s (fenced ctx s deeds) (fenced ctx s (deeds ++ more)) }
@@ -17,6 +18,7 @@ pub fn fences_make_one_process()
 
 /// A process over a stream has in memory what it knows of the stream, and what it made after it. So one that knows the whole
 /// stream, and has nothing pending, answers as the log's replay does.
+#[tactic(auto, using(crate::proofs::Streams::candidate_replays))]
 pub fn candidates_are_replays()
     ensures { (ctx : Context) (s : WorldSettings) (deeds : List Deed) (node : Node) (number : ℕ)
         → IsReplayOfKnown ctx s (fenced ctx s deeds) node number }

@@ -29,6 +29,7 @@ ghost use Rattle.crash_safety.specs.Growing.{
 /// the settings that no node is beyond: those of the node that is furthest, or later ones. The one premise is that of each
 /// growth: what a switch has rejected for want of a route has none when it goes over, nor under the settings that are asked about.
 /// And a process that lives has in memory the replay of its log under its own settings.
+#[tactic(auto, using(crate::proofs::Grown::runs_at, crate::proofs::Grown::replays_at))]
 pub fn growing_networks_are_runs()
     ensures runs { (stages : ℕ → Stage) (changes : List Change) (k : ℕ) → Grow stages → Stay stages changes
         → AreWithin stages (grown stages changes) k → RunsAt (stages k) (grown stages changes).network }
@@ -38,6 +39,7 @@ pub fn growing_networks_are_runs()
 {}
 
 /// There is a world of what the disks hold, and one of what lies in the files.
+#[tactic(auto, using(crate::proofs::Grown::grown_disks, crate::proofs::Grown::grown_files))]
 pub fn growing_networks_have_worlds()
     ensures disks { (stages : ℕ → Stage) (changes : List Change) (k : ℕ) → Grow stages → Stay stages changes
         → AreWithin stages (grown stages changes) k

@@ -11,12 +11,14 @@ ghost use Rattle.crash_safety.specs.Handing.{Happening, LaterWhateverSwitchesAre
 /// Any number of processes may speak in the name of a switch, with tables or without, at any time: where each says only what it
 /// may hand on, the disks of pharmacies and payers have an explained order at every moment, which later ones go on from. So they
 /// are those of a run.
+#[tactic(auto, using(crate::proofs::Happening::orders_go_on))]
 pub fn any_switches_will_do()
     ensures { (ctx : Context) (s : WorldSettings) (all more : List Happening)
         → Laws ctx → Accepts ctx s → OrdersGoOn ctx s (handing ctx s all) (handing ctx s (all ++ more)) }
 {}
 
 /// And no fill is paid twice, reversals come from their owners, and what is counted is what stands.
+#[tactic(auto, using(crate::proofs::WhateverSwitches::one_standing_whatever, crate::proofs::WhateverSwitches::reversed_whatever, crate::proofs::WhateverSwitches::counted_whatever, crate::proofs::WhateverSwitches::in_full_whatever))]
 pub fn payments_whatever_switches_are()
     ensures one_standing { WhateverSwitchesAre OneStandingPayment }
     ensures reversed { WhateverSwitchesAre ReversedByOwner }
@@ -26,6 +28,7 @@ pub fn payments_whatever_switches_are()
 
 /// No two pharmacies or payers hold different answers to one numbered transaction, at one moment or at two; what they decided
 /// stays decided; and what a pharmacy has heard it may tell before it keeps it.
+#[tactic(auto, using(crate::proofs::WhateverSwitches::one_answer_whatever, crate::proofs::WhateverSwitches::stays_whatever))]
 pub fn answers_whatever_switches_are()
     ensures one_answer { LaterWhateverSwitchesAre OneAnswerOutside }
     ensures stays { LaterWhateverSwitchesAre (λ (ctx : Context) (w v : World). StaysDecided w v) }
@@ -33,6 +36,7 @@ pub fn answers_whatever_switches_are()
 {}
 
 /// What lies in the files of pharmacies and payers has an explained order too, so what crashes leave can be audited.
+#[tactic(auto, using(crate::proofs::Filed::files_orders))]
 pub fn files_whatever_switches_are()
     ensures { (ctx : Context) (s : WorldSettings) (all : List Happening)
         → Laws ctx → Accepts ctx s → OrdersFiles ctx s (handing ctx s all) }

@@ -12,6 +12,7 @@ ghost use Rattle.crash_safety.specs.Steps.{AreMoves, CanCome, IsSaid, Step};
 
 /// Steps of a process from the opening of the settings are moves of a network, wherever their calls can come over its wire:
 /// at this node, with nothing else changed. What the synced calls of a process sent can be said there.
+#[tactic(auto, using(crate::proofs::Stepping::are_moves, crate::proofs::Stepping::can_be_said))]
 pub fn steps_are_moves()
     ensures moves { (ctx : Context) (s : WorldSettings) (n : Network) (node : Node) (steps : List Step)
         → CanCome n.wire node steps → AreMoves ctx s n node steps }

@@ -23,6 +23,7 @@ pub fn told_answers_are_final()
 {}
 
 /// Where routes grow, an answer of a payer stays decided, and so does the rejection of a request that has no route still.
+#[tactic(auto, using(crate::proofs::Rerouted::answers_outlive, crate::proofs::Rerouted::rejections_outlive))]
 pub fn told_answers_outlive_growth()
     ensures answers { (ctx : Context) (route : ℕ → RouteKey → Option ℕ) (w : World) (id : TxnId) (request a : List ℕ)
         (h : RequestHeader) (payer : ℕ) → IsAsked ctx w id request h → payer_for ctx id h ≡ Some payer
@@ -56,6 +57,7 @@ pub fn a_lost_rejection_gets_another_answer()
 
 /// A computed story of a claim: where switches have no disk, its answer may be told after two syncs, the pharmacy's of the
 /// submission and the payer's of the ruling.
+#[tactic(auto, using(crate::proofs::Storied::told_after_two))]
 pub fn told_after_two_syncs()
     ensures { (plan : Plan) → ToldAfterTwo plan }
 {}
