@@ -14,6 +14,7 @@ ghost use Rattle.settings_growth.specs.GoingOver.{Added, GoesOver};
 
 /// What a node did under the old settings it does under the new ones, with every byte that it sent, and comes to the same but
 /// for its cap. At a switch this asks that what it rejected for want of a route has none now.
+#[tactic(auto, using(crate::proofs::Replayed::goes_over))]
 pub fn logs_go_over()
     ensures { (ctx wider : Context) (s t : WorldSettings) (node : Node) (before : AnyNode) (log : List Logged)
         → Grows ctx wider s t → node_at (opening s) node ≡ Some before → RejectionsStay ctx wider node log
@@ -22,6 +23,7 @@ pub fn logs_go_over()
 
 /// A node goes over at a moment of its own: a log that was made under the old settings so far, and under the new ones from
 /// there on, is made under the new ones.
+#[tactic(auto, using(crate::proofs::Replayed::goes_on))]
 pub fn logs_go_on()
     ensures { (ctx wider : Context) (s t : WorldSettings) (node : Node) (before after : AnyNode) (log more : List Logged)
         → Grows ctx wider s t → node_at (opening s) node ≡ Some before → node_at (opening t) node ≡ Some after
@@ -38,6 +40,7 @@ pub fn runs_go_over()
 
 /// Nothing weaker would do: where a switch makes its log under both settings, what it rejected for want of a route has none
 /// under the new ones.
+#[tactic(auto, using(crate::proofs::Sharp::have_to_stay))]
 pub fn rejections_have_to_stay()
     ensures { (ctx wider : Context) (s t : WorldSettings) (node : Node) (before after : AnyNode) (log : List Logged)
         → Grows ctx wider s t → node_at (opening s) node ≡ Some before → node_at (opening t) node ≡ Some after

@@ -20,6 +20,7 @@ ghost use Rattle.settings_growth.specs.Rows.{AreForNewcomers};
 use bin_routes::{number_laws, range_laws};
 
 /// In a legal run each request that a node took is of a pharmacy of the settings.
+#[tactic(auto, using(crate::proofs::Own::all_own))]
 pub fn requests_are_of_pharmacies()
     ensures { (ctx : Context) (s : WorldSettings) (logs : List NodeLog) (events : List Event) → Laws ctx → Accepts ctx s
         → IsInterleaving ctx s logs events → AllByRecursion (λ log. HasOwnCalls ctx s log.calls) logs }
@@ -27,6 +28,7 @@ pub fn requests_are_of_pharmacies()
 
 /// A log goes over where each request that it took has the route that it had, and what a switch rejected for want of a route
 /// has none now: both can be seen from the log and the two tables, call by call.
+#[tactic(auto, using(crate::proofs::Replayed::goes_over_lasting))]
 pub fn logs_with_their_routes_go_over()
     ensures { (ctx wider : Context) (s t : WorldSettings) (node : Node) (before : AnyNode) (log : List Logged)
         → wider ≡ record ctx { route = wider.route; switches = wider.switches } → ctx.switches ≤ wider.switches
@@ -36,6 +38,7 @@ pub fn logs_with_their_routes_go_over()
 
 /// Where what the old pharmacies had as a route is as it was, a log goes over whose requests are theirs, however other
 /// providers are routed now. At a switch this asks that what it rejected for want of a route has none now.
+#[tactic(auto, using(crate::proofs::Replayed::goes_over_for))]
 pub fn logs_of_pharmacies_go_over()
     ensures { (ctx wider : Context) (s t : WorldSettings) (node : Node) (before : AnyNode) (log : List Logged)
         → GrowsFor ctx wider s t → node_at (opening s) node ≡ Some before → HasOwnCalls ctx s log
@@ -44,6 +47,7 @@ pub fn logs_of_pharmacies_go_over()
 
 /// A node goes over at a moment of its own. So far it took requests of the old pharmacies alone: the new ones open once
 /// every switch and every payer has gone over.
+#[tactic(auto, using(crate::proofs::Replayed::goes_on_for))]
 pub fn logs_of_pharmacies_go_on()
     ensures { (ctx wider : Context) (s t : WorldSettings) (node : Node) (before after : AnyNode) (log more : List Logged)
         → GrowsFor ctx wider s t → node_at (opening s) node ≡ Some before → node_at (opening t) node ≡ Some after
@@ -70,6 +74,7 @@ pub fn rows_for_newcomers_may_be_added()
 }
 
 /// Settings that grow for all providers grow for the old pharmacies; and what has grown so twice has grown so.
+#[tactic(auto, using(crate::proofs::Growing::for_all))]
 pub fn growth_for_pharmacies()
     ensures all { (ctx wider : Context) (s t : WorldSettings) → Grows ctx wider s t → GrowsFor ctx wider s t }
     ensures twice { (ctx wider widest : Context) (s t u : WorldSettings)

@@ -19,6 +19,7 @@ pub fn made_logs_are_legal()
 {}
 
 /// And back: each log of a legal run is made by its node, and the run has such an order.
+#[tactic(auto, using(crate::proofs::Running::all_made, crate::proofs::Running::has_turns))]
 pub fn legal_logs_have_turns()
     ensures made { (ctx : Context) (s : WorldSettings) (logs : List NodeLog) (events : List Event)
         → IsInterleaving ctx s logs events → AllByRecursion (IsMade ctx s) logs }
