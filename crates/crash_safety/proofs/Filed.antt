@@ -1,5 +1,5 @@
 -- All that lies in the files of pharmacies and payers is synced, whatever switches are.
-use Rattle.std.proofs.Common.{◌≡◌, ℕ, zero, suc, ◌≤◌, List, [], ◌∷◌, ◌++◌, length, refl, sym, ap, ◌∙◌, subst, ◌⊎◌, inl, inr, append_assoc, arith}
+use Rattle.std.proofs.Common.{◌≡◌, ℕ, zero, suc, List, [], ◌∷◌, ◌++◌, length, refl, sym, ap, ◌∙◌, subst, ◌⊎◌, inl, inr, append_assoc, arith}
 use Rattle.std.proofs.lemmas.List.{append-nil}
 use Rattle.std.proofs.lemmas.Bool.{cases_eq}
 use Rattle.claim_model.specs.Context.{Context}
@@ -12,7 +12,7 @@ use Rattle.crash_safety.specs.Network.{Process, Network, file, put, beginning}
 use Rattle.crash_safety.specs.Explained.{Turn}
 use Rattle.crash_safety.specs.Handing.{Happening, handing, OrdersFiles}
 use Rattle.crash_safety.proofs.Sound.{at_each}
-use Rattle.crash_safety.proofs.Finishing.{same_file, nothing_left, UpTo, named_pharmacy, named_payer, all_synced}
+use Rattle.crash_safety.proofs.Finishing.{same_file, nothing_left, UpTo, below, named_pharmacy, named_payer, all_synced}
 use Rattle.crash_safety.proofs.Sources.{NoSwitch}
 use Rattle.crash_safety.proofs.Handed.{IsOrdered}
 use Rattle.crash_safety.proofs.Happening.{sync_one, happens_all, begins_ordered, orders}
@@ -87,9 +87,6 @@ finish_kind ctx s n turns kind (suc most) i d =
         | inr other ↦ both.all node (inl (e.0, below e.0 most e.1 other, e.2))
       ];
     }
-  where
-    below : (k most : ℕ) → k ≤ suc most → (k ≡ suc most → ⊥) → k ≤ most
-    below k most h d = grind (arith, h, d)
 
 -- pharmacies and payers
 

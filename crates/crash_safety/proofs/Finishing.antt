@@ -83,6 +83,9 @@ finish_node ctx s n events node (l ∷ more) i e =
 abbrev pub UpTo : (ℕ → Node) → ℕ → Node → Type 0
 UpTo kind most node = (k : ℕ) × (k ≤ most) × (kind k ≡ node)
 
+pub below : (k most : ℕ) → k ≤ suc most → (k ≡ suc most → ⊥) → k ≤ most
+below k most h d = grind (arith, h, d)
+
 finish_kind : (ctx : Context) (s : WorldSettings) (n : Network) (events : List Event) (kind : ℕ → Node) (most : ℕ) → IsSound ctx s n events → Finished ctx s n events (UpTo kind most)
 finish_kind ctx s n events kind zero i =
     let f = finish_node ctx s n events (kind zero) (n.at (kind zero)).unsynced i refl in
@@ -111,9 +114,6 @@ finish_kind ctx s n events kind (suc most) i =
         | inr other ↦ both.all node (inl (e.0, below e.0 most e.1 other, e.2))
       ];
     }
-  where
-    below : (k most : ℕ) → k ≤ suc most → (k ≡ suc most → ⊥) → k ≤ most
-    below k most h d = grind (arith, h, d)
 
 -- all nodes
 

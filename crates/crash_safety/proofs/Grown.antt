@@ -1,5 +1,5 @@
 -- What the disks of a growing network hold together is a run under the settings that all have or can go over to.
-use Rattle.std.proofs.Common.{◌≡◌, ℕ, List, [], ◌∷◌, ◌++◌, Option, Some, None, refl, sym, ap, ◌∙◌, subst, inl, inr}
+use Rattle.std.proofs.Common.{◌≡◌, ℕ, List, [], ◌++◌, Option, Some, None, refl, sym, ap, ◌∙◌, subst, inl, inr}
 use Rattle.claim_model.specs.Context.{Context}
 use Rattle.claim_model.specs.Numbered.{numbered}
 use Rattle.claim_model.specs.Node.{Node}
@@ -13,6 +13,7 @@ use Rattle.claim_model.proofs.Held.{one_answer}
 use Rattle.claim_model.proofs.Owners.{one_standing, reversed_by_owner}
 use Rattle.claim_model.proofs.Counting.{counted_stand}
 use Rattle.claim_model.proofs.CountedInFull.{standing_counted}
+use Rattle.claim_model.proofs.Walking.{nothing_left}
 use Rattle.settings_growth.specs.Orders.{Turn, events_of, turns_of}
 use Rattle.settings_growth.proofs.Turns.{MakesAt, made_turns}
 use Rattle.crash_safety.specs.Network.{Process, Network, file}
@@ -21,7 +22,7 @@ use Rattle.crash_safety.specs.Kept.{AreNodes}
 use Rattle.crash_safety.specs.Growing.{Stage, Grow, Growing, Change, stopped, at_outset, grown, Stay, AreWithin, RunsAt, WhateverGrows}
 use Rattle.crash_safety.proofs.Replaying.{makes_left}
 use Rattle.crash_safety.proofs.Sound.{Comes, IsSound}
-use Rattle.crash_safety.proofs.Moving.{comes_again, none_some, sent_by}
+use Rattle.crash_safety.proofs.Moving.{comes_again, empty_left, none_some, sent_by}
 use Rattle.crash_safety.proofs.Finishing.{files_run}
 use Rattle.crash_safety.proofs.Worlds.{with_packets, nodes_of_run, is_of_run, reached}
 use Rattle.crash_safety.proofs.Promises.{one_standing_with, reversed_with, counted_with, in_full_with, one_answer_with}
@@ -32,18 +33,10 @@ abbrev pub asleep : Network → Network
 asleep n = record { at = λ (node : Node). stopped (n.at node); wire = n.wire }
 
 front_empty : (p : Process) → file p ≡ [] → p.synced ≡ []
-front_empty p e = first p.synced p.unsynced e
-  where
-    first : (xs ys : List Logged) → xs ++ ys ≡ [] → xs ≡ []
-    first [] ys e = refl
-    first (x ∷ xs) ys e = absurd cc
+front_empty p e = empty_left p.synced p.unsynced e
 
 behind_empty : (p : Process) → file p ≡ [] → p.unsynced ≡ []
-behind_empty p e = last p.synced p.unsynced e
-  where
-    last : (xs ys : List Logged) → xs ++ ys ≡ [] → ys ≡ []
-    last [] ys e = e
-    last (x ∷ xs) ys e = absurd cc
+behind_empty p e = nothing_left p.synced p.unsynced (sym e)
 
 module _ (stages : ℕ → Stage) (g : Growing) (turns : List Turn) (k : ℕ) (grow : Grow stages) (are : AreWithin stages g k) (i : IsOrdered stages g turns) where
   abbrev own : Stage

@@ -1,5 +1,5 @@
 -- A stream takes an entry, a word is told, and so any deeds: all candidates together are one process.
-use Rattle.std.proofs.Common.{◌≡◌, ℕ, ◌+◌, ◌≤◌, Bool, true, false, cond, List, [], ◌∷◌, ◌++◌, take, drop, length, Option, Some, None, refl, sym, ap, ◌∙◌, subst, inl, inr, append_assoc, arith}
+use Rattle.std.proofs.Common.{◌≡◌, ℕ, ◌+◌, Bool, true, false, cond, List, [], ◌∷◌, ◌++◌, take, drop, length, Option, Some, None, refl, sym, ap, ◌∙◌, subst, inl, inr, append_assoc, arith}
 use Rattle.std.specs.Prelude.{nat_eq}
 use Rattle.std.specs.List.{AllByRecursion}
 use Rattle.std.proofs.lemmas.List.{take-append-drop, take-append-le, map-append, length-append}
@@ -24,12 +24,9 @@ use Rattle.crash_safety.proofs.Candidates.{IsFit, IsFair, HasRequest, IsFenced, 
 
 -- the stream takes an entry
 
-longer_same : (known : ℕ) (log more : List Logged) → known ≤ length log → take known (log ++ more) ≡ take known log
-longer_same known log more within = take-append-le known log more within
-
 fit_longer : (ctx : Context) (s : WorldSettings) (wire : List Packet) (requests : List Request) (log more : List Logged) (node : Node) (c : Candidate) → IsFit ctx s wire requests log node c → IsFit ctx s wire requests (log ++ more) node c
 fit_longer ctx s wire requests log more node c w =
-    let same : take c.known log ++ c.pending ≡ take c.known (log ++ more) ++ c.pending = ap (λ (x : List Logged). x ++ c.pending) (sym (longer_same c.known log more w.within)) in
+    let same : take c.known log ++ c.pending ≡ take c.known (log ++ more) ++ c.pending = ap (λ (x : List Logged). x ++ c.pending) (sym (take-append-le c.known log more w.within)) in
     record {
       within = let l = length-append log more in let b = w.within in omega (arith, l, b);
       memory = λ m e. ap (λ (x : List Logged). replayed ctx s node x) (sym same) ∙ w.memory m e;
@@ -45,7 +42,7 @@ fair_longer ctx s wire log more r w =
       within = let l = length-append log more in let b = w.within in omega (arith, l, b);
       before = w.before;
       opens = w.opens;
-      makes = subst (Makes ctx w.before) (ap (λ (x : List Logged). x ++ r.logged ∷ []) (sym (longer_same r.expected log more w.within))) w.makes;
+      makes = subst (Makes ctx w.before) (ap (λ (x : List Logged). x ++ r.logged ∷ []) (sym (take-append-le r.expected log more w.within))) w.makes;
       comes = w.comes;
     }
 
