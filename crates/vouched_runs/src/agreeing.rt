@@ -11,6 +11,7 @@ ghost use Rattle.vouched_runs.specs.Agreeing.{Agreeing, AlwaysFromAgreeing, Late
 
 /// Where each state is what its node keeps, and they agree, vouched calls lead to nodes that keep all promises: how the states came
 /// about is not asked.
+#[tactic(auto, using(crate::proofs::Agreed::agreeing_standing, crate::proofs::Agreed::agreeing_counted, crate::proofs::Agreed::agreeing_in_full, crate::proofs::Agreed::agreeing_reversed, crate::proofs::Agreed::agreeing_requests, crate::proofs::Agreed::agreeing_answers, crate::proofs::Agreed::agreeing_whole, crate::proofs::Agreed::agreeing_one_answer))]
 pub fn agreeing_states_keep_promises()
     ensures one_standing { AlwaysFromAgreeing OneStandingPayment }
     ensures counted { AlwaysFromAgreeing CountedPaymentsStand }
