@@ -176,6 +176,7 @@ impl JournalAtRest {
     }
 
     /// How many entries there are.
+    #[tactic(auto, using(crate::proofs::StopStart::made_by_adding))]
     pub fn entries(&self) -> usize
         ensures value { result ≡ length self.now.entries }
         ensures in_limit { result ≤ self.now.settings.cap }

@@ -62,6 +62,7 @@ impl Bucket {
     }
 
     /// One more place is a hole: its entry has no lead any more.
+    #[tactic(auto, using(crate::proofs::OpenPlaces::filter_again))]
     pub(crate) fn leave_hole(&mut self, leads: &[Option<u64>])
         ensures same_open { filter (is_open leads.now) self.new ≡ filter (is_open leads.now) self.old }
         ensures in_range { (n : ℕ) → AllByRecursion (λ k. k < n) self.old → AllByRecursion (λ k. k < n) self.new }

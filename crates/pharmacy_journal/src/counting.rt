@@ -87,6 +87,7 @@ impl JournalAtRest {
 }
 
 /// The payments that these entries count.
+#[tactic(auto, using(crate::proofs::Payable::counted_by))]
 fn paid_in(alloc: Global, slots: &[Slot]) -> Result<Vec<CountedPayment>, AllocError>
     ensures { IfOk result (λ paid. paid.items ≡ counted_in (outcomes (map kept_of slots.now))) }
 {
@@ -164,6 +165,7 @@ pub(crate) fn take_slot(told: &mut Told, slot: &Slot, rulings: &[Ruling]) -> Res
 }
 
 /// Adds what the rulings on the groups of a request tell.
+#[tactic(auto, using(crate::proofs::Payable::no_fills, crate::proofs::Payable::or_false))]
 fn take_all(told: &mut Told, request: &[u8], rulings: &[Ruling]) -> Result<(), AllocError>
     ensures named { OnOk result (NamesMore told.old told.new (outcomes_by request.now rulings.now)) }
     ensures reversed { OnOk result (ReversesMore told.old told.new (outcomes_by request.now rulings.now)) }

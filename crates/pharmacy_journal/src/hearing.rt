@@ -124,6 +124,7 @@ fn verdict(slot: &Slot, envelope: &Envelope<'_>, known: bool) -> Result<(), Faul
 }
 
 /// Whether an envelope settles an entry whose request its answer fits.
+#[tactic(auto, using(crate::proofs::Hearings::opened_by))]
 fn known_verdict(slot: &Slot, envelope: &Envelope<'_>) -> Result<(), Fault>
     requires { answers slot.now envelope.now ≡ true }
     ensures open { OnOk result (IsAnsweredBy slot.now envelope.now.payload) }

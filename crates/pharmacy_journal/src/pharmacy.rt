@@ -110,6 +110,7 @@ impl Pharmacy {
     }
 
     /// Whether no entry is open: then a tick changes nothing and sends nothing.
+    #[tactic(auto, using(crate::proofs::Idle::idle_by_phases))]
     pub fn is_idle(&self) -> bool
         ensures { result ≡ is_idle self.now }
     {

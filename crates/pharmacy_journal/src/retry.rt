@@ -50,6 +50,7 @@ impl Retry {
     }
 
     /// The lead with which an entry is in this phase now.
+    #[tactic(auto, using(crate::proofs::Circle::ahead, crate::proofs::Circle::behind))]
     pub(crate) fn lead_to(&self, phase: u64) -> u64
         requires { phase < phases_of self.now.rule }
         ensures phase { phase_at self.now result ≡ phase }
@@ -79,6 +80,7 @@ impl Retry {
     }
 
     /// The bucket whose entries the next tick sends.
+    #[tactic(auto, using(crate::proofs::Circle::next_remainder, crate::proofs::Circle::whole_round, crate::proofs::Circle::whole_round_from_start))]
     pub(crate) fn next_bucket(&self) -> usize
         ensures in_range { result < self.now.rule.again }
         ensures due { (lead : ℕ) → is_due self.now.rule (Some (phase_at (turned self.now) lead))
@@ -103,6 +105,7 @@ impl Retry {
     }
 
     /// The phase of an entry of this lead after the next tick: at most once round the circle from the next clock.
+    #[tactic(auto, using(crate::proofs::Circle::goes_on, crate::proofs::Circle::comes_round))]
     fn next_phase(&self, lead: u64) -> u64
         requires { lead < phases_of self.now.rule }
         ensures value { result ≡ phase_at (turned self.now) lead }

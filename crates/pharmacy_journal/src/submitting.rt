@@ -113,6 +113,7 @@ impl Pharmacy {
 }
 
 /// The header of a text that is framed as a request.
+#[tactic(auto, using(crate::proofs::ReadingLemmas::unframed))]
 fn read_header(text: &[u8]) -> Result<RequestHeader, Fault>
     ensures ok { IfOk result (λ header. header_of text.now ≡ Some header) }
     ensures fault { IfErr result (λ e. (j : Journal) → IsFirstFault j text.now e) }

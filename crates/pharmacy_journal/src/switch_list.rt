@@ -28,6 +28,7 @@ pub fn switch_numbers(alloc: Global, bytes: &[u8]) -> Result<Vec<u16>, AllocErro
 }
 
 /// The bytes that are these numbers, two for each, the higher first. They are read as these numbers.
+#[tactic(auto, using(crate::proofs::Switches::read_back))]
 pub fn switch_bytes(alloc: Global, numbers: &[u16]) -> Result<Vec<u8>, AllocError>
     ensures text { IfOk result (λ bytes. bytes.items ≡ bytes_of numbers.now) }
     ensures read { IfOk result (λ bytes. numbers_in bytes.items ≡ numbers.now) }

@@ -107,6 +107,7 @@ impl<'a> Teller<'a> {
     }
 
     /// The payments that the pharmacy counts, once all entries are told.
+    #[tactic(auto, using(crate::proofs::Tellings::told_all))]
     pub fn paid(self) -> Result<Vec<CountedPayment>, AllocError>
         requires { self.left ≡ [] }
         ensures { CountsIn self.entry.entries result }

@@ -36,6 +36,7 @@ impl JournalAtRest {
 }
 
 /// What is told of these entries, and the payments that they count.
+#[tactic(auto, using(crate::proofs::Payable::counted_by))]
 fn told_by(
     alloc: Global,
     slots: &[Slot],

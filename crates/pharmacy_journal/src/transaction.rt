@@ -183,6 +183,7 @@ impl SettledTxn {
 /// The envelope that carries a readable request. It is written once for a transaction, and its code stays out of the calls that send it
 /// again.
 #[inline(never)]
+#[tactic(auto, using(crate::proofs::ReadingLemmas::readable_short))]
 fn request_packet(alloc: Global, id: TxnId, request: &[u8]) -> Result<Octets, AllocError>
     requires { IsSome (readable_header request.now) }
     ensures { IfOk result (λ packet. packet ≡ envelope_text Request id request.now) }
@@ -195,6 +196,7 @@ fn request_packet(alloc: Global, id: TxnId, request: &[u8]) -> Result<Octets, Al
 }
 
 /// Whether an answer settles a readable request: it reads as an answer of the request's code and count.
+#[tactic(auto, using(crate::proofs::ReadingLemmas::settles_none))]
 pub(crate) fn judge(request: &[u8], answer: &[u8]) -> Result<(), SettleFault>
     requires { IsSome (readable_header request.now) }
     ensures ok { OnOk result (settles_with request.now answer.now ≡ true) }

@@ -4,11 +4,7 @@ use Rattle.claim_model.specs.Journal.{Has, settle_by}
 use Rattle.claim_model.specs.declared.refusal.Refusal.TheVariants.{Unreadable}
 use Rattle.claim_model.specs.Refusal.{refusal_of, IsRefused}
 use Rattle.pharmacy_journal.specs.Entries.{entry_of}
-use Rattle.pharmacy_journal.proofs.Hearings.{opened_by}
 use Rattle.pharmacy_journal.proofs.hearing.known_verdict.Goals as goal
-
-pub returns-clause-open : goal.returns-clause-open
-returns-clause-open c = opened_by c.args.slot.now c.args.envelope.now c.beside.result c.requires c.beside.ensures.open
 
 pub returns-clause-ok : goal.returns-clause-ok
 returns-clause-ok c = λ phase.

@@ -1,11 +1,8 @@
 use Rattle.std.proofs.Common.{◌∙◌}
 use Rattle.d0_header.specs.Request.{request_of}
 use Rattle.claim_profile.proofs.Headers.{readable_cut}
-use Rattle.pharmacy_journal.proofs.ReadingLemmas.{settles_at, settles_none}
+use Rattle.pharmacy_journal.proofs.ReadingLemmas.{settles_at}
 use Rattle.pharmacy_journal.proofs.transaction.judge.Goals as goal
-
-pub returns-in-Err-clause-fault : goal.returns-in-Err-clause-fault
-returns-in-Err-clause-fault c = λ _. settles_none c.args.request.now c.args.answer.now c.in-Err.field-0 c.in-Err.ensures.fault
 
 pub returns-then-fits-clause-ok : goal.returns-then-fits-clause-ok
 returns-then-fits-clause-ok c =
