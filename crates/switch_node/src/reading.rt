@@ -52,6 +52,7 @@ fn key_of(request: &[u8]) -> RouteKey
 }
 
 /// The header of a readable request: it is cut from the front, and what follows is not read.
+#[tactic(auto, unfolding(crate::specs::Sent::header_in), using(claim_profile::proofs::Headers::readable_cut))]
 pub fn header_of(envelope: &Envelope<'_>) -> RequestHeader
     requires { HasRequest envelope.now }
     ensures { result ≡ header_in envelope.now }

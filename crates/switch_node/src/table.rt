@@ -115,6 +115,7 @@ impl Table {
     }
 
     /// All entries, oldest first.
+    #[tactic(auto, unfolding(crate::specs::Ring::turned))]
     pub fn list(&self) -> Result<Vec<InFlight>, AllocError>
         ensures { IfOk result (λ list. list.items ≡ map in_flight self.now.entries) }
     {
