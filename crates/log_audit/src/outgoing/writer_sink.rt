@@ -103,9 +103,11 @@ fn pass_piece<W: Write>(
     failure: &mut Option<io::Error>,
     piece: &[u8],
 )
-    ensures passes { Passes (is_some failure.old) (is_some failure.new) (bytes_in written.old.notes) (bytes_in written.new.notes) piece.now }
+    ensures passes { Passes (is_some failure.old) (is_some failure.new)
+        (bytes_in written.old.notes) (bytes_in written.new.notes) piece.now }
     // What is noted is what the writer took, and a beginning of the piece.
-    ensures took { TookSome (W.contents writer.old) (W.contents writer.new) (bytes_in written.old.notes) (bytes_in written.new.notes) piece.now }
+    ensures took { TookSome (W.contents writer.old) (W.contents writer.new)
+        (bytes_in written.old.notes) (bytes_in written.new.notes) piece.now }
 {
     if failure.is_some() {
         return;
@@ -117,7 +119,8 @@ fn pass_piece<W: Write>(
 fn write_piece<W: Write>(writer: &mut W, written: &mut Noted, piece: &[u8]) -> io::Result<()>
     ensures all { OnOk result (bytes_in written.new.notes ≡ bytes_in written.old.notes ++ piece.now) }
     // What is noted is what the writer took, and a beginning of the piece.
-    ensures took { TookSome (W.contents writer.old) (W.contents writer.new) (bytes_in written.old.notes) (bytes_in written.new.notes) piece.now }
+    ensures took { TookSome (W.contents writer.old) (W.contents writer.new)
+        (bytes_in written.old.notes) (bytes_in written.new.notes) piece.now }
 {
     let mut left = piece;
     for _ in 0..u64::MAX {
